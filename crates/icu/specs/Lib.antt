@@ -1,0 +1,6 @@
+pub mod Fields
+pub mod Answers
+pub mod Ranks
+pub mod Words
+pub mod Requests
+pub mod Service

@@ -1,0 +1,31 @@
+-- The request lines, IRR and INT.
+use Prim.Native.Nat.{ℕ}
+use mathlib.Core.Bool.{Bool, true, false, not}
+use lib.Bits.{bitOr}
+use Rattle.bits.specs.Choice.{if_then_else_, _and_, every, some}
+use Rattle.bits.specs.Bits.{bitOf, maskedOf}
+use Rattle.icu.specs.declared.Icu.{Icu}
+use Rattle.icu.specs.Fields.{edges-is}
+use Rattle.icu.specs.Ranks.{outranks}
+use Rattle.icu.specs.Words.{ready, lev}
+
+-- IRR: in level trigger the lines, in edge trigger the requests that rises have made. The mask does not touch it.
+unfoldable pub irrOf : Icu → ℕ → ℕ
+irrOf c lines = if lev c then lines else c .edges
+
+-- The levels requested and unmasked.
+unfoldable pub askedOf : Icu → ℕ → ℕ
+askedOf c lines = maskedOf (irrOf c lines) (c .imr)
+
+-- Level n outranks every level in service.
+abbrev pub outranksAll : Icu → ℕ → Bool
+outranksAll c n = every (λ m. if bitOf (c .isr) m then outranks (c .lowest) n m else true) 8
+
+-- INT is high exactly if the chip is ready and some level requested and unmasked outranks every level in service.
+unfoldable pub intOf : Icu → ℕ → Bool
+intOf c lines = ready c and some (λ n. bitOf (askedOf c lines) n and outranksAll c n) 8
+
+-- The lines change. In edge trigger each line that rises while the chip is ready makes a request, which stays until it is acknowledged.
+unfoldable pub linesOf : Icu → ℕ → ℕ → Icu
+linesOf c was now =
+    if ready c then (if lev c then c else edges-is (bitOr (c .edges) (maskedOf now was)) c) else c

@@ -1,0 +1,132 @@
+-- Reset, and the words that the processor writes.
+use Prim.Native.Nat.{ℕ, _/_, _%_}
+use mathlib.Core.Bool.{Bool, true, false}
+use lib.Dec.{eqb}
+use Rattle.bits.specs.Choice.{if_then_else_, _and_}
+use Rattle.bits.specs.Bits.{bitOf, withoutOf}
+use Rattle.icu.specs.declared.Icu.{Icu}
+use Rattle.icu.specs.Fields.{stage-is, iw2-is, iw4-is, imr-is, isr-is, lowest-is, showsisr-is, rotation-is}
+use Rattle.icu.specs.Answers.{Told, done, refused}
+use Rattle.icu.specs.Ranks.{highestOf}
+
+-- The stages: no IW1 yet, IW2 awaited, IW4 awaited, ready.
+abbrev pub unstarted : ℕ
+unstarted = 0
+
+abbrev pub awaits-iw2 : ℕ
+awaits-iw2 = 1
+
+abbrev pub awaits-iw4 : ℕ
+awaits-iw4 = 2
+
+abbrev pub ready : Icu → Bool
+ready c = eqb (c .stage) 3
+
+-- Reset: the registers are zero, level 7 is lowest, and there was no IW1.
+unfoldable pub resetOf : Icu
+resetOf =
+    record {
+      stage = unstarted;
+      iw1 = 0;
+      iw2 = 0;
+      sfi = false;
+      vector = false;
+      rotation = false;
+      showsisr = false;
+      edges = 0;
+      isr = 0;
+      imr = 0;
+      lowest = 7;
+    }
+
+-- IW1. The requests, ISR and IMR are cleared, reads show IRR, level 7 is lowest, the rotation in self-FI ends, and IW4 is
+-- forgotten: FI commands and CALL mode. IW2 stays until it is written.
+unfoldable pub iw1 : Icu → ℕ → Icu
+iw1 c x =
+    record {
+      stage = awaits-iw2;
+      iw1 = x;
+      iw2 = c .iw2;
+      sfi = false;
+      vector = false;
+      rotation = false;
+      showsisr = false;
+      edges = 0;
+      isr = 0;
+      imr = 0;
+      lowest = 7;
+    }
+
+-- The bits of IW1: D3 level trigger, D2 address gap 4, D0 IW4 follows.
+abbrev pub lev : Icu → Bool
+lev c = bitOf (c .iw1) 3
+
+abbrev pub ag4 : Icu → Bool
+ag4 c = bitOf (c .iw1) 2
+
+abbrev pub i4 : Icu → Bool
+i4 c = bitOf (c .iw1) 0
+
+-- IW2; then IW4 where IW1 announced it, and otherwise the chip is ready.
+abbrev pub iw2 : Icu → ℕ → Icu
+iw2 c x = if i4 c then stage-is awaits-iw4 (iw2-is x c) else stage-is 3 (iw2-is x c)
+
+-- IW4: D1 self-FI, D0 vector mode. The chip is ready.
+abbrev pub iw4 : Icu → ℕ → Icu
+iw4 c x = stage-is 3 (iw4-is (bitOf x 1) (bitOf x 0) c)
+
+-- A word at A0=1: IMR once ready, before that the word that is awaited. Before the first IW1 it is out of turn.
+unfoldable pub laterWord : Icu → ℕ → Told
+laterWord c x =
+    if ready c then done (imr-is x c)
+    else if eqb (c .stage) awaits-iw2 then done (iw2 c x)
+    else if eqb (c .stage) awaits-iw4 then done (iw4 c x)
+    else refused 3 c
+
+-- SNM and EXCN together set the exceptional nesting mode.
+abbrev pub setsExceptional : ℕ → Bool
+setsExceptional x = bitOf x 6 and bitOf x 5
+
+-- MCW. Polling (D2) and the exceptional nesting mode (D6 with D5) are not built. D1 has D0 choose what reads at A0=0 show: ISR or IRR.
+unfoldable pub mcw : Icu → ℕ → Told
+mcw c x =
+    if bitOf x 2 then refused 4 c
+    else if setsExceptional x then refused 4 c
+    else if bitOf x 1 then done (showsisr-is (bitOf x 0) c)
+    else done c
+
+-- FI without a level: the highest-ranked level in service ends, and with rotation becomes lowest. With none in service nothing happens.
+abbrev pub ended : Icu → ℕ → Icu
+ended c n = isr-is (withoutOf (c .isr) n) c
+
+unfoldable pub finished : Icu → Bool → Icu
+finished c rotate =
+    if eqb (c .isr) 0 then c
+    else if rotate then lowest-is (highestOf (c .isr) (c .lowest)) (ended c (highestOf (c .isr) (c .lowest)))
+    else ended c (highestOf (c .isr) (c .lowest))
+
+-- PFCW, by D7 D6 D5: rotate priority, specify a level (D2-D0), finish.
+-- 001 and 101 finish the highest-ranked level; 011, 111 and 110 name theirs, and 110 finishes nothing. Where RP is set, the level
+-- becomes lowest, in service or not. 100 starts and 000 ends the rotation in self-FI. 010 does nothing.
+abbrev pub commanded : Icu → ℕ → ℕ → Icu
+commanded c command n =
+    if eqb command 0 then rotation-is false c
+    else if eqb command 1 then finished c false
+    else if eqb command 3 then ended c n
+    else if eqb command 4 then rotation-is true c
+    else if eqb command 5 then finished c true
+    else if eqb command 6 then lowest-is n c
+    else if eqb command 7 then lowest-is n (ended c n)
+    else c
+
+unfoldable pub pfcw : Icu → ℕ → Icu
+pfcw c x = commanded c (x / 32) (x % 8)
+
+-- A write. At A0=0 a word with D4 set is IW1, at any time; only the single mode (D1) is built. Without D4 the chip must be ready, and
+-- D3 tells MCW from PFCW.
+unfoldable pub writeOf : Icu → Bool → ℕ → Told
+writeOf c a0 x =
+    if a0 then laterWord c x
+    else if bitOf x 4 then (if bitOf x 1 then done (iw1 c x) else refused 4 c)
+    else if ready c then (if bitOf x 3 then mcw c x else done (pfcw c x))
+    else refused 3 c

@@ -1,0 +1,375 @@
+// The interrupt chip, a 71059 used alone: eight levels, one INT.
+// Not modelled: slaves (IW3), polling, the exceptional nesting mode, the buffer mode, the pins' timing.
+ghost use mathlib.Core.Path.{_≡_};
+ghost use Prim.Native.Nat.{_≤_};
+ghost use Rattle.icu.specs.Answers.{writtenAs, gotAs, acknowledgedAs};
+ghost use Rattle.icu.specs.Words.{resetOf, iw1, laterWord, setsExceptional, mcw, finished, pfcw, writeOf};
+ghost use Rattle.icu.specs.Ranks.{highestOf, rankOf};
+ghost use Rattle.icu.specs.Requests.{irrOf, askedOf, intOf, linesOf};
+ghost use Rattle.icu.specs.Service.{servedOf, vectorOf, callLowOf, acknowledgeOf, readOf};
+
+// What the chip holds. IRR is no field: it is the lines, or the edge requests. Neither is INT.
+#[repr(C)]
+pub struct Icu {
+    // which word A0=1 takes: none yet, IW2, IW4, or IMR when ready
+    pub stage: u8,
+    // IW1 as it was written: A7-A5, 1, LEV, AG4, SNGL, I4
+    pub iw1: u8,
+    pub iw2: u8,
+    // of IW4: self-FI, and vector mode in place of CALL
+    pub sfi: bool,
+    pub vector: bool,
+    // rotation in self-FI
+    pub rotation: bool,
+    // reads at A0=0 show ISR and not IRR
+    pub showsisr: bool,
+    pub edges: u8,
+    pub isr: u8,
+    pub imr: u8,
+    pub lowest: u8,
+}
+
+// What a write answers.
+pub enum Written {
+    Taken(Icu),
+    OutOfTurn,
+    NotBuilt,
+}
+
+// What a read answers; it changes nothing.
+pub enum Got {
+    Shown(u8),
+    NotReady,
+}
+
+// What an acknowledge answers: a vector, or the two address bytes of a CALL.
+pub enum Acknowledged {
+    Vector(Icu, u8),
+    Call(Icu, u8, u8),
+    Unready,
+    IntLow,
+}
+
+// The highest-ranked level whose bit is set in x, 8 where none is.
+pub fn highest(x: u8, lowest: u8) -> u8
+    ensures { λ r. ⌜ r ≡ highestOf x lowest ⌝ }
+    ensures { λ r. ⌜ r ≤ 8 ⌝ }
+{
+    let mut k: u8 = 0;
+    let n = loop {
+        if k == Icu::LEVELS {
+            break Icu::LEVELS;
+        }
+        let level = (lowest % 8 + 1 + k) % 8;
+        if bits::bit(x, level) {
+            break level;
+        }
+        k += 1;
+    };
+    n
+}
+
+// SNM and EXCN of an MCW, which set the exceptional nesting mode together.
+fn sets_exceptional(x: u8) -> bool
+    ensures { λ r. ⌜ r ≡ setsExceptional x ⌝ }
+{
+    if bits::bit(x, 6) {
+        return bits::bit(x, 5);
+    }
+    false
+}
+
+// How far below the highest rank a level stands.
+pub fn rank(lowest: u8, level: u8) -> u8
+    ensures { λ r. ⌜ r ≡ rankOf lowest level ⌝ }
+{
+    (level % 8 + 7 - lowest % 8) % 8
+}
+
+impl Icu {
+    // A0=0 and A0=1.
+    pub const PORTS: u8 = 2;
+
+    pub const LEVELS: u8 = 8;
+
+    pub const NOT_STARTED: u8 = 0;
+
+    pub const AWAITS_IW2: u8 = 1;
+
+    pub const AWAITS_IW4: u8 = 2;
+
+    pub const READY: u8 = 3;
+
+    pub fn reset() -> Icu
+        ensures { λ r. ⌜ r ≡ resetOf ⌝ }
+    {
+        Icu {
+            stage: Icu::NOT_STARTED,
+            iw1: 0,
+            iw2: 0,
+            sfi: false,
+            vector: false,
+            rotation: false,
+            showsisr: false,
+            edges: 0,
+            isr: 0,
+            imr: 0,
+            lowest: 7,
+        }
+    }
+
+    // IW1: all but IW2 starts again.
+    pub fn start(self, x: u8) -> Icu
+        ensures { λ r. ⌜ r ≡ iw1 self x ⌝ }
+    {
+        Icu {
+            stage: Icu::AWAITS_IW2,
+            iw1: x,
+            iw2: self.iw2,
+            sfi: false,
+            vector: false,
+            rotation: false,
+            showsisr: false,
+            edges: 0,
+            isr: 0,
+            imr: 0,
+            lowest: 7,
+        }
+    }
+
+    // A word at A0=1: IMR, IW2 or IW4, by what is awaited.
+    pub fn write_later(mut self, x: u8) -> Written
+        ensures { λ r. ⌜ writtenAs self r ≡ laterWord self x ⌝ }
+    {
+        if self.stage == Icu::READY {
+            self.imr = x;
+            return Written::Taken(self);
+        }
+        if self.stage == Icu::AWAITS_IW2 {
+            self.iw2 = x;
+            if bits::bit(self.iw1, 0) {
+                self.stage = Icu::AWAITS_IW4;
+                return Written::Taken(self);
+            }
+            self.stage = Icu::READY;
+            return Written::Taken(self);
+        }
+        if self.stage == Icu::AWAITS_IW4 {
+            self.sfi = bits::bit(x, 1);
+            self.vector = bits::bit(x, 0);
+            self.stage = Icu::READY;
+            return Written::Taken(self);
+        }
+        Written::OutOfTurn
+    }
+
+    // MCW: which register a read at A0=0 shows.
+    pub fn write_mcw(mut self, x: u8) -> Written
+        ensures { λ r. ⌜ writtenAs self r ≡ mcw self x ⌝ }
+    {
+        if bits::bit(x, 2) {
+            return Written::NotBuilt;
+        }
+        if sets_exceptional(x) {
+            return Written::NotBuilt;
+        }
+        if bits::bit(x, 1) {
+            self.showsisr = bits::bit(x, 0);
+            return Written::Taken(self);
+        }
+        Written::Taken(self)
+    }
+
+    // The finish command without a level: the highest-ranked level in service ends, and no other.
+    pub fn finish(mut self, rotate: bool) -> Icu
+        ensures { λ r. ⌜ r ≡ finished self rotate ⌝ }
+    {
+        if self.isr == 0 {
+            return self;
+        }
+        let n = highest(self.isr, self.lowest);
+        let others = bits::without(self.isr, n);
+        self.isr = others;
+        if rotate {
+            self.lowest = n;
+            return self;
+        }
+        self
+    }
+
+    // PFCW, by RP, SIL and FI, with the level it names.
+    pub fn write_pfcw(mut self, x: u8) -> Icu
+        ensures { λ r. ⌜ r ≡ pfcw self x ⌝ }
+    {
+        let command = x / 32;
+        let n = x % 8;
+        match command {
+            0 => {
+                self.rotation = false;
+                return self;
+            }
+            1 => self.finish(false),
+            3 => {
+                let left = bits::without(self.isr, n);
+                self.isr = left;
+                return self;
+            }
+            4 => {
+                self.rotation = true;
+                return self;
+            }
+            5 => self.finish(true),
+            6 => {
+                self.lowest = n;
+                return self;
+            }
+            7 => {
+                let left = bits::without(self.isr, n);
+                self.isr = left;
+                self.lowest = n;
+                return self;
+            }
+            _ => self,
+        }
+    }
+
+    // A byte written at A0.
+    pub fn write(self, a0: bool, x: u8) -> Written
+        ensures { λ r. ⌜ writtenAs self r ≡ writeOf self a0 x ⌝ }
+    {
+        if a0 {
+            return self.write_later(x);
+        }
+        if bits::bit(x, 4) {
+            if bits::bit(x, 1) {
+                return Written::Taken(self.start(x));
+            }
+            return Written::NotBuilt;
+        }
+        if self.stage == Icu::READY {
+            if bits::bit(x, 3) {
+                return self.write_mcw(x);
+            }
+            return Written::Taken(self.write_pfcw(x));
+        }
+        Written::OutOfTurn
+    }
+
+    // IRR: in level trigger the lines as they are, in edge trigger the rises not yet acknowledged.
+    pub fn irr(self, lines: u8) -> u8
+        ensures { λ r. ⌜ r ≡ irrOf self lines ⌝ }
+    {
+        if bits::bit(self.iw1, 3) {
+            return lines;
+        }
+        self.edges
+    }
+
+    // The requested levels that IMR leaves.
+    pub fn asked(self, lines: u8) -> u8
+        ensures { λ r. ⌜ r ≡ askedOf self lines ⌝ }
+    {
+        bits::masked(self.irr(lines), self.imr)
+    }
+
+    // INT: whether some level asked for outranks every level in service.
+    pub fn int(self, lines: u8) -> bool
+        ensures { λ r. ⌜ r ≡ intOf self lines ⌝ }
+    {
+        if self.stage == Icu::READY {
+            let a = highest(self.asked(lines), self.lowest);
+            if a == Icu::LEVELS {
+                return false;
+            }
+            let s = highest(self.isr, self.lowest);
+            if s == Icu::LEVELS {
+                return true;
+            }
+            return rank(self.lowest, a) < rank(self.lowest, s);
+        }
+        false
+    }
+
+    // The lines go from one set of levels to another.
+    pub fn lines(mut self, was: u8, now: u8) -> Icu
+        ensures { λ r. ⌜ r ≡ linesOf self was now ⌝ }
+    {
+        if self.stage != Icu::READY {
+            return self;
+        }
+        if bits::bit(self.iw1, 3) {
+            return self;
+        }
+        let risen = bits::masked(now, was);
+        self.edges = self.edges | risen;
+        self
+    }
+
+    // The chip once level n is acknowledged.
+    pub fn serve(mut self, n: u8) -> Icu
+        ensures { λ r. ⌜ r ≡ servedOf self n ⌝ }
+    {
+        let edges = bits::without(self.edges, n);
+        self.edges = edges;
+        if self.sfi {
+            if self.rotation {
+                self.lowest = n;
+                return self;
+            }
+            return self;
+        }
+        let isr = bits::with(self.isr, n);
+        self.isr = isr;
+        self
+    }
+
+    // The vector of level n.
+    pub fn vector_of(self, n: u8) -> u8
+        ensures { λ r. ⌜ r ≡ vectorOf self n ⌝ }
+    {
+        self.iw2 / 8 * 8 + n % 8
+    }
+
+    // The low address byte of level n's CALL, 4 or 8 bytes apart.
+    pub fn call_low(self, n: u8) -> u8
+        ensures { λ r. ⌜ r ≡ callLowOf self n ⌝ }
+    {
+        if bits::bit(self.iw1, 2) {
+            return self.iw1 / 32 * 32 + n % 8 * 4;
+        }
+        self.iw1 / 64 * 64 + n % 8 * 8
+    }
+
+    // The processor acknowledges an interrupt.
+    pub fn acknowledge(self, lines: u8) -> Acknowledged
+        ensures { λ r. ⌜ acknowledgedAs self r ≡ acknowledgeOf self lines ⌝ }
+    {
+        if self.stage == Icu::READY {
+            if self.int(lines) {
+                let n = highest(self.asked(lines), self.lowest);
+                if self.vector {
+                    return Acknowledged::Vector(self.serve(n), self.vector_of(n));
+                }
+                return Acknowledged::Call(self.serve(n), self.call_low(n), self.iw2);
+            }
+            return Acknowledged::IntLow;
+        }
+        Acknowledged::Unready
+    }
+
+    // A read: IMR at A0=1, IRR or ISR at A0=0.
+    pub fn read(self, a0: bool, lines: u8) -> Got
+        ensures { λ r. ⌜ gotAs self r ≡ readOf self a0 lines ⌝ }
+    {
+        if self.stage == Icu::READY {
+            if a0 {
+                return Got::Shown(self.imr);
+            }
+            if self.showsisr {
+                return Got::Shown(self.isr);
+            }
+            return Got::Shown(self.irr(lines));
+        }
+        Got::NotReady
+    }
+}
