@@ -1,5 +1,5 @@
 -- Laws of `every` and `some`, and what holds of each number below a bound by one test that antt computes.
-use mathlib.Core.Bool.{Bool, true, false}
+use mathlib.Core.Bool.{Bool, true, false, not}
 use mathlib.Core.Path.{_≡_, refl, subst, sym}
 use mathlib.Core.Logic.{⊎-elim}
 use Prim.Native.Nat.{ℕ, zero, suc, _<_}
@@ -73,3 +73,17 @@ unfolding every
 every-false f zero k h e = absurd (not-suc-le-zero h)
 every-false f (suc n) k h e =
     ⊎-elim (λ q. not-left (f n) (every f n) (rw q at e)) (λ l. not-right (f n) (every f n) (every-false f n k l e)) (eq-or-lt-of-le (le-of-suc-le-suc h))
+
+-- two tests agree at each number below n
+abbrev pub same : Bool → Bool → Bool
+same true b = b
+same false b = not b
+
+same→eq : (a b : Bool) → T (same a b) → a ≡ b
+same→eq true true t = refl
+same→eq true false t = absurd t
+same→eq false true t = absurd t
+same→eq false false t = refl
+
+pub alike : (f g : ℕ → Bool) (n : ℕ) → T (every (λ k. same (f k) (g k)) n) → (k : ℕ) → k < n → f k ≡ g k
+alike f g n t k h = same→eq (f k) (g k) (below (λ k. same (f k) (g k)) n t k h)

@@ -19,3 +19,11 @@ withoutOf x n = if bitOf x n then x - 2 ^ n else x
 -- The bits of x that the mask m leaves: those whose bit in m is clear.
 unfoldable pub maskedOf : ℕ → ℕ → ℕ
 maskedOf x m = bitAnd x (255 - m)
+
+-- A level as a bit of the weight w.
+abbrev pub weighed : Bool → ℕ → ℕ
+weighed level w = if level then w else 0
+
+-- One less in 16 bits: 0 goes to FFFFH, so that a written 0 counts 65,536.
+abbrev pub less : ℕ → ℕ
+less n = (n + 65535) % 65536

@@ -1,0 +1,4 @@
+pub mod Wiring
+pub mod Operations
+pub mod Advance
+pub mod Step

@@ -1,0 +1,106 @@
+-- What each operation of a record comes to.
+use Prim.Native.Nat.{ℕ, _+_, _/_, _%_}
+use mathlib.Core.Bool.{Bool, true, false}
+use mathlib.Core.List.{List, [], _∷_, _++_}
+use lib.Dec.{eqb}
+use Rattle.bits.specs.Choice.{if_then_else_}
+use Rattle.tape.specs.Answers.{twelve, littleOf}
+use Rattle.icu.specs.Words as IcuWords
+use Rattle.icu.specs.Service as IcuService
+use Rattle.icu.specs.Answers as IcuAnswers
+use Rattle.timer.specs.Timer as Timers
+use Rattle.timer.specs.declared.Timer.{Timer}
+use Rattle.dma.specs.declared.Dma.{Dma}
+use Rattle.dma.specs.Registers as DmaRegisters
+use Rattle.dma.specs.Cycle as DmaCycle
+use Rattle.dma.specs.Report.{Told}
+use Rattle.board.specs.declared.Board.{Board}
+use Rattle.board.specs.declared.Outcome.{Outcome}
+use Rattle.board.specs.Wiring.{icu-is, timer-is, dma-is, lines, rewired}
+
+-- Done; done with a data byte; refused by number, which leaves the board as it was and answers zeros.
+abbrev pub telling : Board → ℕ → Outcome
+telling b x = record { status = 0; board = b; byte = x; payload = twelve [] }
+
+abbrev pub done : Board → Outcome
+done b = telling b 0
+
+abbrev pub refused : ℕ → Board → Outcome
+refused n b = record { status = n; board = b; byte = 0; payload = twelve [] }
+
+-- What the interrupt chip tells, as the board's.
+abbrev pub icuTold : Board → IcuAnswers.Told → Outcome
+icuTold b t =
+    record { status = t .status; board = icu-is (t .icu) b; byte = t .byte; payload = twelve (t .payload) }
+
+abbrev pub icuWritten : Board → Bool → ℕ → IcuAnswers.Told
+icuWritten b a0 x = IcuWords.writeOf (b .icu) a0 x
+
+abbrev pub icuShown : Board → Bool → IcuAnswers.Told
+icuShown b a0 = IcuService.readOf (b .icu) a0 (lines b)
+
+abbrev pub acknowledged : Board → IcuAnswers.Told
+acknowledged b = IcuService.acknowledgeOf (b .icu) (lines b)
+
+-- A write to the timer may change OUT0, which reaches the interrupt chip at once.
+unfoldable pub timerWritten : Board → ℕ → ℕ → Outcome
+timerWritten b p x =
+    if eqb (Timers.writesOf (b .timer) p x .status) 0 then done (rewired (b .intp) (Timers.writesOf (b .timer) p x .timer) b)
+    else refused (Timers.writesOf (b .timer) p x .status) b
+
+-- A read of the timer moves its reading place and frees its latch; no OUT changes.
+unfoldable pub timerShown : Board → ℕ → Outcome
+timerShown b p =
+    if eqb (Timers.readsOf (b .timer) p .status) 0 then
+    telling (timer-is (Timers.readsOf (b .timer) p .timer) b) (Timers.readsOf (b .timer) p .byte)
+    else refused (Timers.readsOf (b .timer) p .status) b
+
+unfoldable pub dmaWritten : Board → ℕ → ℕ → Outcome
+dmaWritten b p x =
+    if eqb (DmaRegisters.writeOf (b .dma) p x .status) 0 then done (dma-is (DmaRegisters.writeOf (b .dma) p x .dma) b)
+    else refused (DmaRegisters.writeOf (b .dma) p x .status) b
+
+unfoldable pub dmaShown : Board → ℕ → Outcome
+dmaShown b p =
+    if eqb (DmaRegisters.readOf (b .dma) p .status) 0 then
+    telling (dma-is (DmaRegisters.readOf (b .dma) p .dma) b) (DmaRegisters.readOf (b .dma) p .byte)
+    else refused (DmaRegisters.readOf (b .dma) p .status) b
+
+-- A write and a read go to the chip that the port's high digit names, 0, 1 or 2. Its low digit has the address lines: A0 of the interrupt
+-- chip, A1-A0 of the timer, A3-A0 of the DMA chip.
+abbrev pub a0 : ℕ → Bool
+a0 p = eqb (p % 2) 1
+
+unfoldable pub writeOf : Board → ℕ → ℕ → Outcome
+writeOf b p x =
+    if eqb (p / 16) 0 then icuTold b (icuWritten b (a0 p) x)
+    else if eqb (p / 16) 1 then timerWritten b p x
+    else dmaWritten b p x
+
+unfoldable pub readOf : Board → ℕ → Outcome
+readOf b p =
+    if eqb (p / 16) 0 then icuTold b (icuShown b (a0 p))
+    else if eqb (p / 16) 1 then timerShown b p
+    else dmaShown b p
+
+-- What a DMA cycle reports: kind, channel, end, service stopped, and the unit's address in four bytes, little end first.
+abbrev pub flagOf : Bool → ℕ
+flagOf k = if k then 1 else 0
+
+abbrev pub payloadOf : Told → List ℕ
+payloadOf t = t .kind ∷ t .channel ∷ flagOf (t .end) ∷ flagOf (t .stopped) ∷ littleOf (t .address)
+
+abbrev pub cycled : Board → Bool → ℕ → List ℕ → DmaCycle.Out
+cycled b end x m = DmaCycle.cycleOf (b .dma) end x m
+
+unfoldable pub cycleOf : Board → Bool → ℕ → List ℕ → Outcome
+cycleOf b end x m =
+    record {
+      status = 0;
+      board = dma-is (cycled b end x m .dma) b;
+      byte = cycled b end x m .report .byte;
+      payload = twelve (payloadOf (cycled b end x m .report));
+    }
+
+unfoldable pub cycleMemory : Board → Bool → ℕ → List ℕ → List ℕ
+cycleMemory b end x m = cycled b end x m .memory

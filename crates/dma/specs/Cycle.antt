@@ -1,0 +1,160 @@
+-- One bus cycle.
+use Prim.Native.Nat.{ℕ, zero, suc, _+_, _/_, _%_}
+use mathlib.Core.List.{List}
+use mathlib.Core.Bool.{Bool, true, false, not}
+use lib.Dec.{eqb, ltb}
+use lib.ListN.{getD, set}
+use Rattle.bits.specs.Choice.{if_then_else_, _and_, _or_}
+use Rattle.bits.specs.Bits.{bitOf, withOf, less}
+use Rattle.dma.specs.declared.Span.{Span}
+use Rattle.dma.specs.declared.Channel.{Channel}
+use Rattle.dma.specs.declared.Dma.{Dma}
+use Rattle.dma.specs.Fields.{span, current-is, masked-is, chan, served, turned}
+use Rattle.dma.specs.Report.{Told, nothing, granted, moved, released}
+
+-- What a channel's mode byte says. TMODE: demand 00, single 01, and block 10, which is neither. ADIR: the address falls. AUTI:
+-- autoinitialize. TDIR: device to memory 01 writes, memory to device 10 reads, and verify 00 does neither.
+abbrev pub demand : Channel → Bool
+demand c = eqb (c .mode / 64) 0
+
+abbrev pub single : Channel → Bool
+single c = eqb (c .mode / 64) 1
+
+abbrev pub down : Channel → Bool
+down c = bitOf (c .mode) 5
+
+abbrev pub auto : Channel → Bool
+auto c = bitOf (c .mode) 4
+
+abbrev pub writes : Channel → Bool
+writes c = eqb (c .mode / 4 % 4) 1
+
+abbrev pub reads : Channel → Bool
+reads c = eqb (c .mode / 4 % 4) 2
+
+-- A channel is ready if it is not masked and its request is high.
+unfoldable pub ready : Dma → ℕ → Bool
+ready d n = if chan d n .masked then false else bitOf (d .requests) n
+
+-- The ranks run from the first-ranked channel upwards, modulo 4. The highest-ranked ready channel; 4 if there is none.
+abbrev pub rankOf : Dma → ℕ → ℕ
+rankOf d k = (d .first + k) % 4
+
+unfoldable pub winnerFrom : Dma → ℕ → ℕ → ℕ
+winnerFrom d k zero = 4
+winnerFrom d k (suc left) = if ready d (rankOf d k) then rankOf d k else winnerFrom d (suc k) left
+
+abbrev pub winner : Dma → ℕ
+winner d = winnerFrom d 0 4
+
+-- What a cycle leaves.
+pub record Out : Type 0 where
+  pub dma : Dma
+  pub memory : List ℕ
+  pub report : Told
+
+unfoldable pub nothingOf : Dma → List ℕ → Out
+nothingOf d m = record { dma = d; memory = m; report = nothing }
+
+-- Channel n gets service, and nothing moves.
+unfoldable pub grantedOf : Dma → ℕ → List ℕ → Out
+grantedOf d n m =
+    record { dma = turned (d .channels) true n (d .first) (d .ends) d; memory = m; report = granted n }
+
+-- Once the service of n stopped: with rotation n is last, so the next number is first.
+abbrev pub firstAfter : Dma → ℕ → ℕ
+firstAfter d n = if d .rotate then (n + 1) % 4 else d .first
+
+-- Demand with its request low releases the bus, and nothing moves.
+abbrev pub releases : Dma → Bool
+releases d = demand (served d) and not (bitOf (d .requests) (d .channel))
+
+unfoldable pub releasedOf : Dma → List ℕ → Out
+releasedOf d m =
+    record {
+      dma = turned (d .channels) false 0 (firstAfter d (d .channel)) (d .ends) d;
+      memory = m;
+      report = released (d .channel);
+    }
+
+-- Memory byte i is address i. A place past the end reads FFH and loses what is written; none at or past 2^24 is touched.
+abbrev pub peekOf : List ℕ → ℕ → ℕ
+peekOf m a = if ltb a 16777216 then getD m a 255 else 255
+
+abbrev pub pokeOf : List ℕ → ℕ → ℕ → List ℕ
+pokeOf m a b = if ltb a 16777216 then set m a b else m
+
+-- The byte that a unit moves, the device's b or memory's, and the memory after it. Verify gives 0.
+abbrev pub byteOf : Channel → List ℕ → ℕ → ℕ
+byteOf c m b = if writes c then b else if reads c then peekOf m (c .current .address) else 0
+
+abbrev pub memoryOf : Channel → List ℕ → ℕ → List ℕ
+memoryOf c m b = if writes c then pokeOf m (c .current .address) b else m
+
+-- The next address, modulo 2^24, and the next count, modulo 2^16.
+abbrev pub stepped : ℕ → Bool → ℕ
+stepped a falls = if falls then (a + 16777215) % 16777216 else (a + 1) % 16777216
+
+abbrev pub next : Channel → Span
+next c = span (stepped (c .current .address) (down c)) (less (c .current .count))
+
+-- A unit is the end if the count was 0, or END is 1. Service stops at the end, and in single after each unit.
+abbrev pub lastOf : Channel → Bool → Bool
+lastOf c e = eqb (c .current .count) 0 or e
+
+abbrev pub stopsOf : Channel → Bool → Bool
+stopsOf c last = last or single c
+
+-- A channel after a unit: at the end it is reloaded from base if it autoinitializes, else masked.
+abbrev pub going : Channel → Channel
+going c = current-is (next c) c
+
+abbrev pub ended : Channel → Channel
+ended c = masked-is true (current-is (next c) c)
+
+abbrev pub reloaded : Channel → Channel
+reloaded c = current-is (c .base) c
+
+abbrev pub movedBy : Channel → Bool → Bool → Channel
+movedBy c last auto = if last then (if auto then reloaded c else ended c) else going c
+
+unfoldable pub movedOf : Channel → Bool → Channel
+movedOf c last = movedBy c last (auto c)
+
+-- The end sets the channel's end bit.
+abbrev pub endsAfter : Dma → Bool → ℕ
+endsAfter d last = if last then withOf (d .ends) (d .channel) else d .ends
+
+-- The chip after a unit, with the served channel now c.
+abbrev pub settledOf : Dma → Channel → Bool → Bool → Dma
+settledOf d c last stop =
+    turned (set (d .channels) (d .channel) c)
+    (not stop)
+    (if stop then 0 else d .channel)
+    (if stop then firstAfter d (d .channel) else d .first)
+    (endsAfter d last)
+    d
+
+-- One unit, by its tests: it is the end, service stops.
+abbrev pub unitBy : Dma → Bool → Bool → ℕ → List ℕ → Out
+unitBy d last stop b m =
+    record {
+      dma = settledOf d (movedOf (served d) last) last stop;
+      memory = memoryOf (served d) m b;
+      report = moved (d .channel) last stop (served d .current .address) (byteOf (served d) m b);
+    }
+
+unfoldable pub unitOf : Dma → Bool → ℕ → List ℕ → Out
+unitOf d e b m = unitBy d (lastOf (served d) e) (stopsOf (served d) (lastOf (served d) e)) b m
+
+-- A cycle, by its tests: serving; the served channel releases; disabled; no channel is ready.
+abbrev pub cycleBy : Dma → Bool → ℕ → List ℕ → Bool → Bool → Bool → Bool → Out
+cycleBy d e b m serving releases disabled idle =
+    if serving then (if releases then releasedOf d m else unitOf d e b m)
+    else if disabled then nothingOf d m
+    else if idle then nothingOf d m
+    else grantedOf d (winner d) m
+
+-- A cycle with END e and the device's byte b. Neither counts unless a unit moves.
+unfoldable pub cycleOf : Dma → Bool → ℕ → List ℕ → Out
+cycleOf d e b m = cycleBy d e b m (d .serving) (releases d) (d .disabled) (eqb (winner d) 4)

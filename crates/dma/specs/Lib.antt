@@ -1,0 +1,4 @@
+pub mod Fields
+pub mod Registers
+pub mod Report
+pub mod Cycle

@@ -1,0 +1,72 @@
+-- A call.
+use Prim.Native.Nat.{ℕ, zero, suc, _+_, _*_, _/_, _%_}
+use mathlib.Core.Bool.{Bool, not}
+use mathlib.Core.List.{List, [], _++_}
+use lib.Dec.{ltb}
+use lib.ListN.{length, take, drop}
+use Rattle.bits.specs.Choice.{if_then_else_, _and_}
+use Rattle.board.specs.declared.Board.{Board}
+use Rattle.board.specs.declared.Kept.{Kept}
+use Rattle.board.specs.Step.{stepOf, stepMemory}
+use Rattle.intake.specs.declared.Fed.{Fed}
+use Rattle.intake.specs.Ranges.{inRange}
+use Rattle.intake.specs.Records.{recordAt, restAt}
+
+-- Where a run stands: the board, the memory, and the answers so far.
+pub record Run : Type 0 where
+  pub board : Board
+  pub memory : List ℕ
+  pub answers : List ℕ
+
+-- One record more.
+abbrev pub next : Run → List ℕ → Run
+next s r =
+    record {
+      board = stepOf (s .board) r (s .memory) .board;
+      memory = stepMemory (s .board) r (s .memory);
+      answers = s .answers ++ stepOf (s .board) r (s .memory) .answer;
+    }
+
+-- The first n records of the bytes s, one after another.
+unfoldable pub after : Board → List ℕ → List ℕ → ℕ → Run
+after b m s zero = record { board = b; memory = m; answers = [] }
+after b m s (suc n) = next (after b m s n) (recordAt s n)
+
+-- The bytes of a call: those kept from the last one, then the tape. They make k whole records.
+abbrev pub bytesOf : Board → List ℕ → List ℕ
+bytesOf b t = take (b .kept .length) (b .kept .bytes) ++ t
+
+abbrev pub countOf : Board → List ℕ → ℕ
+countOf b t = (b .kept .length + length t) / 8
+
+-- The call is taken if each field of the board is in its range and the buffer has room for k answers.
+unfoldable pub taken : Board → List ℕ → ℕ → Bool
+taken b t room = inRange b and not (ltb (room / 16) (countOf b t))
+
+-- Refused: 7, no record, the board as it was.
+abbrev pub refused : Board → Fed
+refused b = record { status = 7; records = 0; board = b }
+
+-- Taken: 0, k, and the board after k records, which keeps the bytes of the cut one.
+abbrev pub keeping : List ℕ → ℕ → Board → Board
+keeping s n b =
+    record { icu = b .icu; intp = b .intp; timer = b .timer; dma = b .dma; kept = record { bytes = s; length = n } }
+
+abbrev pub done : Board → List ℕ → List ℕ → ℕ → Fed
+done b t m k =
+    record {
+      status = 0;
+      records = k;
+      board = keeping (restAt (bytesOf b t) k) ((b .kept .length + length t) % 8) (after b m (bytesOf b t) k .board);
+    }
+
+unfoldable pub fedOf : Board → List ℕ → List ℕ → ℕ → Fed
+fedOf b t m room = if taken b t room then done b t m (countOf b t) else refused b
+
+-- The memory, and the answer buffer: sixteen bytes for each record, and the rest of the buffer as it was.
+unfoldable pub fedMemory : Board → List ℕ → List ℕ → ℕ → List ℕ
+fedMemory b t m room = if taken b t room then after b m (bytesOf b t) (countOf b t) .memory else m
+
+unfoldable pub fedAnswers : Board → List ℕ → List ℕ → List ℕ → List ℕ
+fedAnswers b t m a =
+    if taken b t (length a) then after b m (bytesOf b t) (countOf b t) .answers ++ drop (16 * countOf b t) a else a

@@ -1,0 +1,3 @@
+pub mod Ranges
+pub mod Records
+pub mod Feed

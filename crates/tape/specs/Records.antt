@@ -1,0 +1,84 @@
+-- The records of a tape: eight bytes, of which byte 0 is the operation.
+use Prim.Native.Nat.{ℕ, zero, suc, _+_, _*_, _%_}
+use mathlib.Core.Bool.{Bool, true, false, not}
+use mathlib.Core.List.{List}
+use lib.Dec.{eqb, ltb, leb}
+use lib.ListN.{getD}
+use Rattle.bits.specs.Choice.{if_then_else_, _and_, _or_}
+use Rattle.tape.specs.declared.Operation.{Operation}
+use Rattle.tape.specs.declared.Operation.the-variants.{Reset, Write, Read, Intp, Gates, Requests, Acknowledge, Advance, Cycle}
+use Rattle.tape.specs.declared.Decoded.{Decoded}
+use Rattle.tape.specs.declared.Decoded.the-variants.{Asked, Malformed}
+
+-- Byte i of a record.
+abbrev pub byte : List ℕ → ℕ → ℕ
+byte r i = getD r i 0
+
+-- The n bytes from place i on are not used by the operation, and zero.
+unfoldable pub unused : List ℕ → ℕ → ℕ → Bool
+unused r i zero = true
+unused r i (suc n) = eqb (byte r i) 0 and unused r (suc i) n
+
+-- The ports: 00H and 01H are the interrupt chip's, 10H to 13H the timer's, 20H to 2FH the DMA chip's.
+abbrev pub icuPort : ℕ → Bool
+icuPort p = ltb p 2
+
+abbrev pub timerPort : ℕ → Bool
+timerPort p = leb 16 p and ltb p 20
+
+abbrev pub dmaPort : ℕ → Bool
+dmaPort p = leb 32 p and ltb p 48
+
+-- 2BH is not there to write, 13H and 20H not to read, and 27H to neither.
+unfoldable pub writable : ℕ → Bool
+writable p = icuPort p or timerPort p or (dmaPort p and not (eqb p 39) and not (eqb p 43))
+
+unfoldable pub readable : ℕ → Bool
+readable p = icuPort p or (timerPort p and not (eqb p 19)) or (dmaPort p and not (eqb p 32) and not (eqb p 39))
+
+-- Operation 3: group 0 is INTP with bits 1 to 7, group 1 the gates with bits 0 to 2, group 2 the DMA requests with bits 0 to 3.
+unfoldable pub linesAsked : ℕ → ℕ → Decoded
+linesAsked group levels =
+    if eqb group 0 then (if eqb (levels % 2) 0 then Asked (Intp levels) else Malformed)
+    else if eqb group 1 then (if ltb levels 8 then Asked (Gates levels) else Malformed)
+    else if eqb group 2 then (if ltb levels 16 then Asked (Requests levels) else Malformed)
+    else Malformed
+
+-- Operation 5 counts its pulses in bytes 4 to 7, little end first.
+unfoldable pub pulsesOf : List ℕ → ℕ
+pulsesOf r = byte r 4 + byte r 5 * 256 + byte r 6 * 65536 + byte r 7 * 16777216
+
+-- The operations: 0 reset, 1 write, 2 read, 3 lines, 4 acknowledge, 5 advance by at most 65,535 pulses, 6 a DMA cycle with END in byte 1
+-- and the device's byte in byte 2. Any other record is malformed.
+unfoldable pub laterAsked : List ℕ → Decoded
+laterAsked r =
+    if eqb (byte r 0) 4 then (if unused r 1 7 then Asked Acknowledge else Malformed)
+    else if eqb (byte r 0) 5 then
+    (if unused r 1 3 then (if leb (pulsesOf r) 65535 then Asked (Advance (pulsesOf r)) else Malformed) else Malformed)
+    else if eqb (byte r 0) 6 then
+    (if unused r 3 5 then
+    (if leb (byte r 1) 1 then Asked (Cycle (eqb (byte r 1) 1) (byte r 2)) else Malformed)
+    else Malformed)
+    else Malformed
+
+unfoldable pub decodeOf : List ℕ → Decoded
+decodeOf r =
+    if eqb (byte r 0) 0 then (if unused r 1 7 then Asked Reset else Malformed)
+    else if eqb (byte r 0) 1 then
+    (if unused r 3 5 then (if writable (byte r 1) then Asked (Write (byte r 1) (byte r 2)) else Malformed) else Malformed)
+    else if eqb (byte r 0) 2 then
+    (if unused r 2 6 then (if readable (byte r 1) then Asked (Read (byte r 1)) else Malformed) else Malformed)
+    else if eqb (byte r 0) 3 then (if unused r 3 5 then linesAsked (byte r 1) (byte r 2) else Malformed)
+    else laterAsked r
+
+-- Writes, reads and acknowledges need the bus, which a served DMA channel has.
+abbrev pub usesBus : Operation → Bool
+usesBus Reset = false
+usesBus (Write p x) = true
+usesBus (Read p) = true
+usesBus (Intp l) = false
+usesBus (Gates l) = false
+usesBus (Requests l) = false
+usesBus Acknowledge = true
+usesBus (Advance n) = false
+usesBus (Cycle e b) = false

@@ -1,0 +1,4 @@
+pub mod Fields
+pub mod Ports
+pub mod Pulse
+pub mod Timer
