@@ -35,7 +35,7 @@ unfoldable pub advancedOf : ℕ → Timer → Icu → ℕ → Run
 advancedOf intp t c zero = record { timer = t; icu = c; rises = 0 ∷ 0 ∷ 0 ∷ [] }
 advancedOf intp t c (suc n) = tickOf intp (advancedOf intp t c n)
 
--- The rises so far are few enough to count one more.
+-- For the proof that a count fits its number: no rise count is past n.
 pub record Few (r : Run) (n : ℕ) : Type 0 where
   pub first : getD (r .rises) 0 0 ≤ n
   pub second : getD (r .rises) 1 0 ≤ n

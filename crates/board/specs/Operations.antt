@@ -18,7 +18,7 @@ use Rattle.board.specs.declared.Board.{Board}
 use Rattle.board.specs.declared.Outcome.{Outcome}
 use Rattle.board.specs.Wiring.{icu-is, timer-is, dma-is, lines, rewired}
 
--- Done; done with a data byte; refused by number, which leaves the board as it was and answers zeros.
+-- Done; done with a data byte; refused by number, which leaves the board as it was, with no data and no payload.
 abbrev pub telling : Board → ℕ → Outcome
 telling b x = record { status = 0; board = b; byte = x; payload = twelve [] }
 
@@ -48,7 +48,7 @@ timerWritten b p x =
     if eqb (Timers.writesOf (b .timer) p x .status) 0 then done (rewired (b .intp) (Timers.writesOf (b .timer) p x .timer) b)
     else refused (Timers.writesOf (b .timer) p x .status) b
 
--- A read of the timer moves its reading place and frees its latch; no OUT changes.
+-- A read of the timer moves its reading place, and with the last byte frees a latch; no OUT changes.
 unfoldable pub timerShown : Board → ℕ → Outcome
 timerShown b p =
     if eqb (Timers.readsOf (b .timer) p .status) 0 then

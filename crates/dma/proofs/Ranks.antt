@@ -5,7 +5,7 @@ use Prim.Native.Nat.{ℕ, zero, suc, _+_, _-_, _<_}
 use native.Mathlib.Numerals.{add-one}
 use native.Mathlib.Omega.{arith}
 use Rattle.dma.specs.declared.Dma.{Dma}
-use Rattle.dma.specs.Cycle.{ready, rankOf, winnerFrom}
+use Rattle.dma.specs.Cycle.{ready, channelAt, winnerFrom}
 
 -- Past the last rank there is no winner.
 pub end : (d : Dma) (k : ℕ) → k ≡ 4 → winnerFrom d k (4 - k) ≡ 4
@@ -17,10 +17,10 @@ module _ (d : Dma) (k : ℕ) (h : k < 4) where
   left = omega arith
 
   -- A ready channel at rank k wins; else the search goes on at the next rank.
-  pub hit : ready d (rankOf d k) ≡ true → winnerFrom d k (4 - k) ≡ rankOf d k
+  pub hit : ready d (channelAt d k) ≡ true → winnerFrom d k (4 - k) ≡ channelAt d k
   unfolding winnerFrom
   hit e = rw (left, e)
 
-  pub miss : ready d (rankOf d k) ≡ false → winnerFrom d k (4 - k) ≡ winnerFrom d (k + 1) (4 - (k + 1))
+  pub miss : ready d (channelAt d k) ≡ false → winnerFrom d k (4 - k) ≡ winnerFrom d (k + 1) (4 - (k + 1))
   unfolding winnerFrom
   miss e = rw (left, e) (ap (λ (m : ℕ). winnerFrom d m (4 - (k + 1))) (sym (add-one k)))

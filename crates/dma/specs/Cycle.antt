@@ -36,13 +36,15 @@ reads c = eqb (c .mode / 4 % 4) 2
 unfoldable pub ready : Dma → ℕ → Bool
 ready d n = if chan d n .masked then false else bitOf (d .requests) n
 
--- The ranks run from the first-ranked channel upwards, modulo 4. The highest-ranked ready channel; 4 if there is none.
-abbrev pub rankOf : Dma → ℕ → ℕ
-rankOf d k = (d .first + k) % 4
+-- The channel at rank k. With fixed rank channel 0 is first, with rotation the one that follows the last served; the others come after it
+-- in the order of their numbers, modulo 4.
+unfoldable pub channelAt : Dma → ℕ → ℕ
+channelAt d k = ((if d .rotate then d .first else 0) + k) % 4
 
+-- The highest-ranked ready channel; 4 if there is none.
 unfoldable pub winnerFrom : Dma → ℕ → ℕ → ℕ
 winnerFrom d k zero = 4
-winnerFrom d k (suc left) = if ready d (rankOf d k) then rankOf d k else winnerFrom d (suc k) left
+winnerFrom d k (suc left) = if ready d (channelAt d k) then channelAt d k else winnerFrom d (suc k) left
 
 abbrev pub winner : Dma → ℕ
 winner d = winnerFrom d 0 4
@@ -56,7 +58,7 @@ pub record Out : Type 0 where
 unfoldable pub nothingOf : Dma → List ℕ → Out
 nothingOf d m = record { dma = d; memory = m; report = nothing }
 
--- Channel n gets service, and nothing moves.
+-- A grant: channel n is served from here on, and no unit moves yet.
 unfoldable pub grantedOf : Dma → ℕ → List ℕ → Out
 grantedOf d n m =
     record { dma = turned (d .channels) true n (d .first) (d .ends) d; memory = m; report = granted n }
@@ -65,7 +67,7 @@ grantedOf d n m =
 abbrev pub firstAfter : Dma → ℕ → ℕ
 firstAfter d n = if d .rotate then (n + 1) % 4 else d .first
 
--- Demand with its request low releases the bus, and nothing moves.
+-- A release: in demand mode the served channel gives the bus back once its request is low, instead of moving a unit.
 abbrev pub releases : Dma → Bool
 releases d = demand (served d) and not (bitOf (d .requests) (d .channel))
 
@@ -77,7 +79,8 @@ releasedOf d m =
       report = released (d .channel);
     }
 
--- Memory byte i is address i. A place past the end reads FFH and loses what is written; none at or past 2^24 is touched.
+-- Address i is byte i of the lent memory. At or past its end a read gives FFH and a write is lost; nothing from 2^24 on is read or
+-- written.
 abbrev pub peekOf : List ℕ → ℕ → ℕ
 peekOf m a = if ltb a 16777216 then getD m a 255 else 255
 
@@ -98,14 +101,15 @@ stepped a falls = if falls then (a + 16777215) % 16777216 else (a + 1) % 1677721
 abbrev pub next : Channel → Span
 next c = span (stepped (c .current .address) (down c)) (less (c .current .count))
 
--- A unit is the end if the count was 0, or END is 1. Service stops at the end, and in single after each unit.
+-- The last unit is the one that finds the count at 0, or that END comes with. Service stops with the last unit, and in single
+-- mode with any.
 abbrev pub lastOf : Channel → Bool → Bool
 lastOf c e = eqb (c .current .count) 0 or e
 
 abbrev pub stopsOf : Channel → Bool → Bool
 stopsOf c last = last or single c
 
--- A channel after a unit: at the end it is reloaded from base if it autoinitializes, else masked.
+-- A channel after a unit: it goes on; or this was the last, and it is masked, or with AUTI starts again from base.
 abbrev pub going : Channel → Channel
 going c = current-is (next c) c
 
@@ -121,7 +125,7 @@ movedBy c last auto = if last then (if auto then reloaded c else ended c) else g
 unfoldable pub movedOf : Channel → Bool → Channel
 movedOf c last = movedBy c last (auto c)
 
--- The end sets the channel's end bit.
+-- The last unit sets the channel's end bit.
 abbrev pub endsAfter : Dma → Bool → ℕ
 endsAfter d last = if last then withOf (d .ends) (d .channel) else d .ends
 
@@ -135,7 +139,7 @@ settledOf d c last stop =
     (endsAfter d last)
     d
 
--- One unit, by its tests: it is the end, service stops.
+-- One unit, by its tests: it is the last, service stops.
 abbrev pub unitBy : Dma → Bool → Bool → ℕ → List ℕ → Out
 unitBy d last stop b m =
     record {
@@ -149,12 +153,12 @@ unitOf d e b m = unitBy d (lastOf (served d) e) (stopsOf (served d) (lastOf (ser
 
 -- A cycle, by its tests: serving; the served channel releases; disabled; no channel is ready.
 abbrev pub cycleBy : Dma → Bool → ℕ → List ℕ → Bool → Bool → Bool → Bool → Out
-cycleBy d e b m serving releases disabled idle =
+cycleBy d e b m serving releases disabled unready =
     if serving then (if releases then releasedOf d m else unitOf d e b m)
     else if disabled then nothingOf d m
-    else if idle then nothingOf d m
+    else if unready then nothingOf d m
     else grantedOf d (winner d) m
 
--- A cycle with END e and the device's byte b. Neither counts unless a unit moves.
+-- A cycle with END e and the device's byte b, which matter to a unit alone.
 unfoldable pub cycleOf : Dma → Bool → ℕ → List ℕ → Out
 cycleOf d e b m = cycleBy d e b m (d .serving) (releases d) (d .disabled) (eqb (winner d) 4)

@@ -56,7 +56,7 @@ selectedOf d x = taken (selection-is (x % 4) (bitOf x 2) d)
 
 -- The number v with its byte of weight w replaced by x, and no other byte.
 abbrev pub byte-is : ℕ → ℕ → ℕ → ℕ
-byte-is w x v = v / (w * 256) * (w * 256) + x % 256 * w + v % w
+byte-is w x v = v / (w * 256) * (w * 256) + (x % 256) * w + v % w
 
 -- 2 and 3 are a count, 4 to 6 an address, each with its low byte first.
 unfoldable pub replacedOf : ℕ → ℕ → Span → Span
@@ -85,9 +85,13 @@ loadedOf d r x =
 abbrev pub keptFirst : Dma → Bool → ℕ
 keptFirst d rotate = if rotate and d .rotate then d .first else 0
 
+-- The bits of x besides D4 and D2 (14H, which is 20).
+abbrev pub otherBits : ℕ → ℕ
+otherBits x = maskedOf x 20
+
 unfoldable pub controlledOf : Dma → ℕ → Written
 controlledOf d x =
-    if eqb (maskedOf x 20) 0 then
+    if eqb (otherBits x) 0 then
     taken (control-is (bitOf x 4) (bitOf x 2) (keptFirst d (bitOf x 4)) d)
     else refused 4 d
 
@@ -113,7 +117,7 @@ maskedBy d x =
     ∷ [])
     d
 
--- A write of x. 7 and B are not there to write. C, D and E are not built. A bit that a register does not have is ignored.
+-- A write of x. 7 and B are not there to write. C, D and E are not built. Bits that 0, 1 and F do not have are ignored.
 abbrev pub writeAt : Dma → ℕ → ℕ → Written
 writeAt d r x =
     if eqb r 0 then initializedOf d x
@@ -149,10 +153,10 @@ byteAt r s =
 unfoldable pub shownSpan : Dma → Span
 shownSpan d = if d .base then selected d .base else selected d .current
 
--- B, status: the request lines as they are, masked or not, in the high nibble, the end bits in the low one. Reading clears the
--- end bits.
+-- B, status: RQ3-RQ0 (D7-D4) are the request lines, whatever the masks; TC3-TC0 (D3-D0) are the end bits, which a read
+-- clears.
 abbrev pub statusOf : Dma → ℕ
-statusOf d = d .requests % 16 * 16 + d .ends % 16
+statusOf d = (d .requests % 16) * 16 + d .ends % 16
 
 abbrev pub statusShown : Dma → Got
 statusShown d = shows (statusOf d) (turned (d .channels) (d .serving) (d .channel) (d .first) 0 d)
@@ -162,7 +166,7 @@ abbrev pub masksOf : Dma → ℕ
 masksOf d =
     weighed (chan d 0 .masked) 1 + weighed (chan d 1 .masked) 2 + weighed (chan d 2 .masked) 4 + weighed (chan d 3 .masked) 8
 
--- A read. 1 shows the selected channel as one bit of four, plus 10H if BASE. 0 and 7 are not there to read. C, D and E
+-- A read. 1 shows BASE (D4), and of SEL3-SEL0 the one bit of the selected channel. 0 and 7 are not there to read. C, D and E
 -- are not built.
 abbrev pub readAt : Dma → ℕ → Got
 readAt d r =

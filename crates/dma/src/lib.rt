@@ -8,7 +8,7 @@ ghost use lib.ListN.{set};
 ghost use Rattle.dma.specs.Fields.{chan, channels-are};
 ghost use Rattle.dma.specs.Registers.{resetOf, requestedOf, taken, refused, initializedOf, selectedOf, replacedOf, loadedOf, keptFirst, controlledOf, heldZero, unbuiltMode, modedOf, maskedBy, writeOf, shows, unread, byteAt, shownSpan, statusShown, masksOf, readOf};
 ghost use Rattle.dma.specs.Report.{told, nothing};
-ghost use Rattle.dma.specs.Cycle.{ready, winner, grantedOf, firstAfter, releases, releasedOf, peekOf, pokeOf, byteOf, memoryOf, stepped, next, lastOf, stopsOf, movedOf, endsAfter, settledOf, unitOf, cycleOf};
+ghost use Rattle.dma.specs.Cycle.{ready, channelAt, winner, grantedOf, firstAfter, releases, releasedOf, peekOf, pokeOf, byteOf, memoryOf, stepped, next, lastOf, stopsOf, movedOf, endsAfter, settledOf, unitOf, cycleOf};
 
 // Where a transfer stands, or starts: an address of 24 bits, and the units still to come, less one.
 #[repr(C)]
@@ -237,7 +237,7 @@ impl Channel {
         }
     }
 
-    // The channel after a unit. The end masks it, unless it autoinitializes.
+    // The channel after a unit. The last one masks it, unless it autoinitializes.
     fn advance(self, last: bool) -> Channel
         ensures { λ r. ⌜ r ≡ movedOf self last ⌝ }
     {
@@ -268,7 +268,7 @@ impl Channel {
         end
     }
 
-    // Service stops at the end, and in single mode after each unit.
+    // The last unit stops service, and in single mode any unit does.
     fn does_stop(self, last: bool) -> bool
         ensures { λ r. ⌜ r ≡ stopsOf self last ⌝ }
     {
@@ -501,10 +501,10 @@ impl Dma {
     fn set_masks(self, x: u8) -> Dma
         ensures { λ r. ⌜ r ≡ maskedBy self x ⌝ }
     {
-        let mut c0 = self.channels[0];
-        let mut c1 = self.channels[1];
-        let mut c2 = self.channels[2];
-        let mut c3 = self.channels[3];
+        let mut c0 = self.channel_at(0);
+        let mut c1 = self.channel_at(1);
+        let mut c2 = self.channel_at(2);
+        let mut c3 = self.channel_at(3);
         c0.masked = bits::bit(x, 0);
         c1.masked = bits::bit(x, 1);
         c2.masked = bits::bit(x, 2);
@@ -565,10 +565,10 @@ impl Dma {
     fn masks(self) -> u8
         ensures { λ r. ⌜ r ≡ masksOf self ⌝ }
     {
-        let c0 = self.channels[0];
-        let c1 = self.channels[1];
-        let c2 = self.channels[2];
-        let c3 = self.channels[3];
+        let c0 = self.channel_at(0);
+        let c1 = self.channel_at(1);
+        let c2 = self.channel_at(2);
+        let c3 = self.channel_at(3);
         bits::weigh(c0.masked, 1)
             + bits::weigh(c1.masked, 2)
             + bits::weigh(c2.masked, 4)
@@ -634,6 +634,16 @@ impl Dma {
         bits::bit(self.requests, n)
     }
 
+    // The channel at rank k. The first rank means nothing while the rank is fixed.
+    fn ranked(self, k: u8) -> u8
+        ensures { λ r. ⌜ r ≡ channelAt self k ⌝ }
+    {
+        if self.rotate {
+            return (self.first % 4 + k % 4) % 4;
+        }
+        k % 4
+    }
+
     // The highest-ranked ready channel, 4 where there is none.
     fn find_winner(self) -> u8
         ensures { λ r. ⌜ r ≡ winner self ⌝ }
@@ -643,9 +653,9 @@ impl Dma {
             if k == Dma::CHANNELS {
                 break Dma::CHANNELS;
             }
-            let rank = (self.first % 4 + k) % 4;
-            if self.is_ready(rank) {
-                break rank;
+            let n = self.ranked(k);
+            if self.is_ready(n) {
+                break n;
             }
             k += 1;
         };
@@ -765,7 +775,7 @@ impl Dma {
         }
     }
 
-    // One bus cycle. END and the device's byte count only when a unit moves.
+    // One bus cycle. END and the device's byte matter to a unit alone: a grant or a release ignores both.
     pub fn cycle(self, end: bool, byte: u8, memory: &mut [u8]) -> Cycle
         ensures dma { λ r. ⌜ r .dma ≡ cycleOf self end byte (now (memory .entry)) .dma ⌝ }
         ensures report { λ r. ⌜ told (r .report) ≡ cycleOf self end byte (now (memory .entry)) .report ⌝ }

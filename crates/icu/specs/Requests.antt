@@ -21,11 +21,15 @@ askedOf c lines = maskedOf (irrOf c lines) (c .imr)
 abbrev pub outranksAll : Icu → ℕ → Bool
 outranksAll c n = every (λ m. if bitOf (c .isr) m then outranks (c .lowest) n m else true) 8
 
--- INT is high exactly if the chip is ready and some level requested and unmasked outranks every level in service.
+-- INT: the chip is ready, and among the levels asked for there is one that outranks all those in service.
 unfoldable pub intOf : Icu → ℕ → Bool
 intOf c lines = ready c and some (λ n. bitOf (askedOf c lines) n and outranksAll c n) 8
 
--- The lines change. In edge trigger each line that rises while the chip is ready makes a request, which stays until it is acknowledged.
+-- The lines that were low and are high.
+abbrev pub rises : ℕ → ℕ → ℕ
+rises was now = maskedOf now was
+
+-- The lines change. In edge trigger each line that rises while the chip is ready makes a request, which lasts until it is acknowledged.
 unfoldable pub linesOf : Icu → ℕ → ℕ → Icu
 linesOf c was now =
-    if ready c then (if lev c then c else edges-is (bitOr (c .edges) (maskedOf now was)) c) else c
+    if ready c then (if lev c then c else edges-is (bitOr (c .edges) (rises was now)) c) else c

@@ -27,7 +27,7 @@ vectorOf c n = c .iw2 / 8 * 8 + n % 8
 
 -- CALL mode, the low address byte: A7-A5 of IW1 with a gap of 4, A7-A6 with a gap of 8. The high one is IW2.
 unfoldable pub callLowOf : Icu → ℕ → ℕ
-callLowOf c n = if ag4 c then c .iw1 / 32 * 32 + n % 8 * 4 else c .iw1 / 64 * 64 + n % 8 * 8
+callLowOf c n = if ag4 c then c .iw1 / 32 * 32 + (n % 8) * 4 else c .iw1 / 64 * 64 + (n % 8) * 8
 
 -- Acknowledge: out of turn before the chip is ready, refused with INT low.
 unfoldable pub acknowledgeOf : Icu → ℕ → Told
@@ -39,7 +39,7 @@ acknowledgeOf c lines =
     else refused 5 c)
     else refused 3 c
 
--- A read: IMR at A0=1; at A0=0 IRR or ISR, as MCW chose.
+-- A read, out of turn before the chip is ready: IMR at A0=1; at A0=0 IRR or ISR, as MCW chose.
 unfoldable pub readOf : Icu → Bool → ℕ → Told
 readOf c a0 lines =
     if ready c then

@@ -83,7 +83,7 @@ laterWord c x =
     else if eqb (c .stage) awaits-iw4 then done (iw4 c x)
     else refused 3 c
 
--- SNM and EXCN together set the exceptional nesting mode.
+-- D6 (SNM) and D5 (EXCN) together set the exceptional nesting mode.
 abbrev pub setsExceptional : ℕ → Bool
 setsExceptional x = bitOf x 6 and bitOf x 5
 
@@ -106,8 +106,8 @@ finished c rotate =
     else ended c (highestOf (c .isr) (c .lowest))
 
 -- PFCW, by D7 D6 D5: rotate priority, specify a level (D2-D0), finish.
--- 001 and 101 finish the highest-ranked level; 011, 111 and 110 name theirs, and 110 finishes nothing. Where RP is set, the level
--- becomes lowest, in service or not. 100 starts and 000 ends the rotation in self-FI. 010 does nothing.
+-- 001 and 101 finish the highest-ranked level in service, which 101 makes lowest. 011 and 111 finish the level they name; 111, and 110
+-- which finishes nothing, make it lowest, in service or not. 100 starts and 000 ends the rotation in self-FI. 010 does nothing.
 abbrev pub commanded : Icu → ℕ → ℕ → Icu
 commanded c command n =
     if eqb command 0 then rotation-is false c

@@ -39,7 +39,8 @@ bytesOf b t = take (b .kept .length) (b .kept .bytes) ++ t
 abbrev pub countOf : Board → List ℕ → ℕ
 countOf b t = (b .kept .length + length t) / 8
 
--- The call is taken if each field of the board is in its range and the buffer has room for k answers.
+-- The call is taken if each field of the board is in its range and the buffer has room for k answers. (Room is counted in whole answers,
+-- since 16 times k may be too large a number for a program.)
 unfoldable pub taken : Board → List ℕ → ℕ → Bool
 taken b t room = inRange b and not (ltb (room / 16) (countOf b t))
 

@@ -19,7 +19,7 @@ unfoldable pub unused : List ℕ → ℕ → ℕ → Bool
 unused r i zero = true
 unused r i (suc n) = eqb (byte r i) 0 and unused r (suc i) n
 
--- The ports: 00H and 01H are the interrupt chip's, 10H to 13H the timer's, 20H to 2FH the DMA chip's.
+-- The ports: 00H and 01H are the interrupt chip's, 10H to 13H (16 to 19) the timer's, 20H to 2FH (32 to 47) the DMA chip's.
 abbrev pub icuPort : ℕ → Bool
 icuPort p = ltb p 2
 
@@ -29,7 +29,7 @@ timerPort p = leb 16 p and ltb p 20
 abbrev pub dmaPort : ℕ → Bool
 dmaPort p = leb 32 p and ltb p 48
 
--- 2BH is not there to write, 13H and 20H not to read, and 27H to neither.
+-- 2BH (43) is not there to write, 13H (19) and 20H (32) not to read, and 27H (39) to neither.
 unfoldable pub writable : ℕ → Bool
 writable p = icuPort p or timerPort p or (dmaPort p and not (eqb p 39) and not (eqb p 43))
 
@@ -45,22 +45,24 @@ linesAsked group levels =
     else Malformed
 
 -- Operation 5 counts its pulses in bytes 4 to 7, little end first.
-unfoldable pub pulsesOf : List ℕ → ℕ
-pulsesOf r = byte r 4 + byte r 5 * 256 + byte r 6 * 65536 + byte r 7 * 16777216
+unfoldable pub pulseCount : List ℕ → ℕ
+pulseCount r = byte r 4 + byte r 5 * 256 + byte r 6 * 65536 + byte r 7 * 16777216
 
--- The operations: 0 reset, 1 write, 2 read, 3 lines, 4 acknowledge, 5 advance by at most 65,535 pulses, 6 a DMA cycle with END in byte 1
--- and the device's byte in byte 2. Any other record is malformed.
+-- Operation 4 is an acknowledge, 5 an advance by 65,535 pulses at the most, 6 a DMA cycle with END in byte 1 and the device's byte in
+-- byte 2.
 unfoldable pub laterAsked : List ℕ → Decoded
 laterAsked r =
     if eqb (byte r 0) 4 then (if unused r 1 7 then Asked Acknowledge else Malformed)
     else if eqb (byte r 0) 5 then
-    (if unused r 1 3 then (if leb (pulsesOf r) 65535 then Asked (Advance (pulsesOf r)) else Malformed) else Malformed)
+    (if unused r 1 3 then (if leb (pulseCount r) 65535 then Asked (Advance (pulseCount r)) else Malformed) else Malformed)
     else if eqb (byte r 0) 6 then
     (if unused r 3 5 then
     (if leb (byte r 1) 1 then Asked (Cycle (eqb (byte r 1) 1) (byte r 2)) else Malformed)
     else Malformed)
     else Malformed
 
+-- Operation 0 is a reset, 1 writes byte 2 to the port in byte 1, 2 reads that port, 3 sets a group of lines. A record that is none of the
+-- seven, or sets a byte that its operation does not use, is malformed.
 unfoldable pub decodeOf : List ℕ → Decoded
 decodeOf r =
     if eqb (byte r 0) 0 then (if unused r 1 7 then Asked Reset else Malformed)

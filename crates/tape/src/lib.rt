@@ -1,7 +1,7 @@
 // The tape's records of 8 bytes, read as operations, and the answers of 16 bytes.
 ghost use mathlib.Core.Path.{_≡_};
 ghost use Prim.Native.Nat.{_<_};
-ghost use Rattle.tape.specs.Records.{unused, writable, readable, pulsesOf, linesAsked, laterAsked, decodeOf, usesBus};
+ghost use Rattle.tape.specs.Records.{unused, writable, readable, pulseCount, linesAsked, laterAsked, decodeOf, usesBus};
 ghost use Rattle.tape.specs.Answers.{twelve, littleOf, answerOf};
 
 // What a record asks for. Lines come by group: INTP, gates, DMA requests.
@@ -144,7 +144,7 @@ pub fn is_readable(port: u8) -> bool
 
 // The pulses that bytes 4 to 7 count, little end first.
 fn pulses(r: [u8; 8]) -> u32
-    ensures { λ n. ⌜ n ≡ pulsesOf r ⌝ }
+    ensures { λ n. ⌜ n ≡ pulseCount r ⌝ }
 {
     wide(r[4]) + wide(r[5]) * 256 + wide(r[6]) * 65536 + wide(r[7]) * 16777216
 }

@@ -99,7 +99,8 @@ unfoldable pub controlOf : Counter → ℕ → Answer
 controlOf c w = if eqb (RWM w) 0 then latchWord c else modeWord c w
 
 -- A complete count n stands as the last one, and no byte of it is kept apart any more. In mode 0 each one is to be
--- transferred, and sets OUT low. In mode 2 the first one is to be transferred; a later one waits for the next reload.
+-- transferred, and sets OUT low. In mode 2 the first one is to be transferred, or the one that replaces it before that pulse; a later
+-- one waits for the next reload.
 unfoldable pub completed : Counter → ℕ → Counter
 completed c n =
     if eqb (c .mode) 0 then out-is false (pending-is true (full-is true (half-is false (count-is n c))))

@@ -13,7 +13,7 @@ use Rattle.timer.specs.declared.Timer.{Timer}
 use Rattle.timer.specs.declared.Written.{Written}
 use Rattle.timer.specs.declared.Got.{Got}
 
--- Counter n. (All fields zero or false past the last, which no rule asks for.)
+-- What stands where there is no counter; no rule asks for it.
 abbrev pub blank : Counter
 blank =
     record {
@@ -33,6 +33,7 @@ blank =
       out = false;
     }
 
+-- Counter n.
 abbrev pub at : Timer → ℕ → Counter
 at t n = getD (t .counters) n blank
 

@@ -1,4 +1,4 @@
-use Rattle.tape.specs.Records.{pulsesOf}
+use Rattle.tape.specs.Records.{pulseCount}
 use borrow.Author.Needs.{needs}
 use Rattle.tape.proofs.pulses.Statement.{statement}
 use Rattle.tape.proofs.pulses.Tie as tie
@@ -64,7 +64,7 @@ add-result-3 c = search needs
 
 -- src/lib.rt:144:1
 returns : tie.Need-returns
-unfolding pulsesOf
+unfolding pulseCount
 returns c = rw (c .wide4 .ensures .0, c .before .wide3 .ensures .0, c .before .before .wide2 .ensures .0, c .before .before .before .wide .ensures .0)
 
 pub pulses-spec : {M : Type 1} → statement M

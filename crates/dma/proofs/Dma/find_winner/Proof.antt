@@ -3,13 +3,13 @@ use Prim.Native.Nat.{ℕ, _-_, _≤_}
 use native.Mathlib.Omega.{arith}
 use borrow.Author.Needs.{needs}
 use Rattle.dma.specs.Cycle.{ready, winnerFrom, winner}
-use Rattle.dma.proofs.Numbers.{turn}
 use Rattle.dma.proofs.Ranks.{end, hit, miss}
 use Rattle.dma.proofs.Dma.find_winner.Statement.{statement}
 use Rattle.dma.proofs.Dma.find_winner.Tie as tie
 use Rattle.dma.proofs.Dma.find_winner.Reads as reads
 use Rattle.dma.proofs.Dma.find_winner.Lts as lts
 use Rattle.dma.proofs.Dma.is_ready.Reads as is-ready-reads
+use Rattle.dma.proofs.Dma.ranked.Reads as ranked-reads
 
 abbrev Inv-loop : tie.InvT-loop
 Inv-loop self k₀ k = (k ≤ 4) × (winnerFrom self k (4 - k) ≡ winner self)
@@ -21,9 +21,8 @@ abbrev μ-loop : tie.MeasureT-loop
 loop-holds : tie.Need-loop-holds Inv-loop μ-loop
 loop-holds c = (search needs, refl)
 
--- src/lib.rt:658:25
-add-rank : tie.Need-add-rank Inv-loop μ-loop
-add-rank c = omega arith
+ranked-requires : tie.Need-ranked-requires Inv-loop μ-loop
+ranked-requires c κs = search needs
 
 -- src/lib.rt:659:16
 is-ready-requires : tie.Need-is-ready-requires Inv-loop μ-loop
@@ -42,7 +41,7 @@ loop-again : tie.Need-loop-again Inv-loop μ-loop
 loop-again c =
     let l = c .before .before .before .before .loop in
     let d = c .before .before .before .before .before .args .self in
-    (omega arith, sym (miss d (l .k) (omega arith) (rw turn at (sym (c .before .is-ready .ensures) ∙ c .if2 .left))) ∙ l .inv .1)
+    (omega arith, sym (miss d (l .k) (omega arith) (rw (← c .before .before .ranked .ensures) (sym (c .before .is-ready .ensures) ∙ c .if2 .left))) ∙ l .inv .1)
 
 -- src/lib.rt:650:5
 returns : tie.Need-returns Inv-loop μ-loop
@@ -56,7 +55,7 @@ returns-2 : tie.Need-returns-2 Inv-loop μ-loop
 returns-2 c =
     let l = c .before .before .before .before .loop in
     let d = c .before .before .before .before .before .args .self in
-    rw turn (sym (hit d (l .k) (omega arith) (rw turn at (sym (c .before .is-ready .ensures) ∙ c .if2 .taken))) ∙ l .inv .1)
+    c .before .before .ranked .ensures ∙ sym (hit d (l .k) (omega arith) (rw (← c .before .before .ranked .ensures) (sym (c .before .is-ready .ensures) ∙ c .if2 .taken))) ∙ l .inv .1
 
 pub find-winner-spec : {M : Type 1} → statement M
 find-winner-spec =
@@ -65,7 +64,7 @@ find-winner-spec =
     Inv-loop
     μ-loop
     loop-holds
-    add-rank
+    ranked-requires
     is-ready-requires
     add-k
     loop-less
