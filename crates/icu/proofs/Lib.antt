@@ -1,2 +1,3 @@
 pub mod Ranks
 pub mod Int
+pub mod Once

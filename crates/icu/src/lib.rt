@@ -51,7 +51,7 @@ pub enum Acknowledged {
 }
 
 // The highest-ranked level whose bit is set in x, 8 where none is.
-pub fn highest(x: u8, lowest: u8) -> u8
+fn highest(x: u8, lowest: u8) -> u8
     ensures { λ r. ⌜ r ≡ highestOf x lowest ⌝ }
     ensures { λ r. ⌜ r ≤ 8 ⌝ }
 {
@@ -80,7 +80,7 @@ fn sets_exceptional(x: u8) -> bool
 }
 
 // How far below the highest rank a level stands.
-pub fn rank(lowest: u8, level: u8) -> u8
+fn rank(lowest: u8, level: u8) -> u8
     ensures { λ r. ⌜ r ≡ rankOf lowest level ⌝ }
 {
     (level % 8 + 7 - lowest % 8) % 8
@@ -119,7 +119,7 @@ impl Icu {
     }
 
     // IW1: all but IW2 starts again.
-    pub fn start(self, x: u8) -> Icu
+    fn start(self, x: u8) -> Icu
         ensures { λ r. ⌜ r ≡ iw1 self x ⌝ }
     {
         Icu {
@@ -138,7 +138,7 @@ impl Icu {
     }
 
     // A word at A0=1: IMR, IW2 or IW4, by what is awaited.
-    pub fn write_later(mut self, x: u8) -> Written
+    fn write_later(mut self, x: u8) -> Written
         ensures { λ r. ⌜ writtenAs self r ≡ laterWord self x ⌝ }
     {
         if self.stage == Icu::READY {
@@ -164,7 +164,7 @@ impl Icu {
     }
 
     // MCW: which register a read at A0=0 shows.
-    pub fn write_mcw(mut self, x: u8) -> Written
+    fn write_mcw(mut self, x: u8) -> Written
         ensures { λ r. ⌜ writtenAs self r ≡ mcw self x ⌝ }
     {
         if bits::bit(x, 2) {
@@ -181,7 +181,7 @@ impl Icu {
     }
 
     // The finish command without a level: the highest-ranked level in service ends, and no other.
-    pub fn finish(mut self, rotate: bool) -> Icu
+    fn finish(mut self, rotate: bool) -> Icu
         ensures { λ r. ⌜ r ≡ finished self rotate ⌝ }
     {
         if self.isr == 0 {
@@ -198,7 +198,7 @@ impl Icu {
     }
 
     // PFCW, by RP, SIL and FI, with the level it names.
-    pub fn write_pfcw(mut self, x: u8) -> Icu
+    fn write_pfcw(mut self, x: u8) -> Icu
         ensures { λ r. ⌜ r ≡ pfcw self x ⌝ }
     {
         let command = x / 32;
@@ -256,7 +256,7 @@ impl Icu {
     }
 
     // IRR: in level trigger the lines as they are, in edge trigger the rises not yet acknowledged.
-    pub fn irr(self, lines: u8) -> u8
+    fn irr(self, lines: u8) -> u8
         ensures { λ r. ⌜ r ≡ irrOf self lines ⌝ }
     {
         if bits::bit(self.iw1, 3) {
@@ -266,7 +266,7 @@ impl Icu {
     }
 
     // The requested levels that IMR leaves.
-    pub fn asked(self, lines: u8) -> u8
+    fn asked(self, lines: u8) -> u8
         ensures { λ r. ⌜ r ≡ askedOf self lines ⌝ }
     {
         bits::masked(self.irr(lines), self.imr)
@@ -306,7 +306,7 @@ impl Icu {
     }
 
     // The chip once level n is acknowledged.
-    pub fn serve(mut self, n: u8) -> Icu
+    fn serve(mut self, n: u8) -> Icu
         ensures { λ r. ⌜ r ≡ servedOf self n ⌝ }
     {
         let edges = bits::without(self.edges, n);
@@ -324,14 +324,14 @@ impl Icu {
     }
 
     // The vector of level n.
-    pub fn vector_of(self, n: u8) -> u8
+    fn vector_of(self, n: u8) -> u8
         ensures { λ r. ⌜ r ≡ vectorOf self n ⌝ }
     {
         self.iw2 / 8 * 8 + n % 8
     }
 
     // The low address byte of level n's CALL, 4 or 8 bytes apart.
-    pub fn call_low(self, n: u8) -> u8
+    fn call_low(self, n: u8) -> u8
         ensures { λ r. ⌜ r ≡ callLowOf self n ⌝ }
     {
         if bits::bit(self.iw1, 2) {
