@@ -1,0 +1,73 @@
+-- What a record asks for, with the bytes that it asks by.
+use mathlib.Core.Path.{_≡_, refl, sym, ap, _∙_, subst}
+use mathlib.Core.List.{List}
+use mathlib.Core.Bool.{Bool, true, false}
+use Prim.Native.Nat.{ℕ, _%_}
+use lib.Dec.{eqb, ltb, leb}
+use Rattle.bits.specs.Choice.{if_then_else_}
+use Rattle.tape.specs.declared.Operation.the-variants.{Reset, Write, Read, Intp, Gates, Requests, Acknowledge, Advance, Cycle}
+use Rattle.tape.specs.declared.Decoded.{Decoded}
+use Rattle.tape.specs.declared.Decoded.the-variants.{Asked, Malformed}
+use Rattle.tape.specs.Records.{byte, unused, writable, readable, linesAsked, pulseCount, laterAsked, decodeOf}
+
+-- A record is malformed, or asks for an operation by its number and with the bytes that this operation uses.
+pub data Decodes (r : List ℕ) : Decoded → Type 0 where
+  malformed : Decodes r Malformed
+  reset : eqb (byte r 0) 0 ≡ true → Decodes r (Asked Reset)
+  write : eqb (byte r 0) 1 ≡ true → writable (byte r 1) ≡ true → Decodes r (Asked (Write (byte r 1) (byte r 2)))
+  read : eqb (byte r 0) 2 ≡ true → readable (byte r 1) ≡ true → Decodes r (Asked (Read (byte r 1)))
+  intp : eqb (byte r 0) 3 ≡ true → eqb (byte r 2 % 2) 0 ≡ true → Decodes r (Asked (Intp (byte r 2)))
+  gates : eqb (byte r 0) 3 ≡ true → ltb (byte r 2) 8 ≡ true → Decodes r (Asked (Gates (byte r 2)))
+  requests : eqb (byte r 0) 3 ≡ true → ltb (byte r 2) 16 ≡ true → Decodes r (Asked (Requests (byte r 2)))
+  acknowledge : eqb (byte r 0) 4 ≡ true → Decodes r (Asked Acknowledge)
+  advance : eqb (byte r 0) 5 ≡ true → leb (pulseCount r) 65535 ≡ true → Decodes r (Asked (Advance (pulseCount r)))
+  cycle : eqb (byte r 0) 6 ≡ true → Decodes r (Asked (Cycle (eqb (byte r 1) 1) (byte r 2)))
+
+-- One of two, by a test that is known on each side.
+pub either : {A : Type 0} (P : A → Type 0) (q : Bool) {a b : A} → (q ≡ true → P a) → (q ≡ false → P b) → P (if q then a else b)
+either P true f g = f refl
+either P false f g = g refl
+
+module _ (r : List ℕ) where
+  lines : eqb (byte r 0) 3 ≡ true → Decodes r (linesAsked (byte r 1) (byte r 2))
+  unfolding linesAsked
+  lines o =
+      either (Decodes r) (eqb (byte r 1) 0)
+      (λ g. either (Decodes r) (eqb (byte r 2 % 2) 0) (λ l. intp o l) (λ l. malformed))
+      (λ _. either (Decodes r) (eqb (byte r 1) 1)
+      (λ g. either (Decodes r) (ltb (byte r 2) 8) (λ l. gates o l) (λ l. malformed))
+      (λ _. either (Decodes r) (eqb (byte r 1) 2)
+      (λ g. either (Decodes r) (ltb (byte r 2) 16) (λ l. requests o l) (λ l. malformed))
+      (λ _. malformed)))
+
+  later : Decodes r (laterAsked r)
+  unfolding laterAsked
+  later =
+      either (Decodes r) (eqb (byte r 0) 4)
+      (λ o. either (Decodes r) (unused r 1 7) (λ _. acknowledge o) (λ _. malformed))
+      (λ _. either (Decodes r) (eqb (byte r 0) 5)
+      (λ o. either (Decodes r) (unused r 1 3)
+      (λ _. either (Decodes r) (leb (pulseCount r) 65535) (λ l. advance o l) (λ _. malformed))
+      (λ _. malformed))
+      (λ _. either (Decodes r) (eqb (byte r 0) 6)
+      (λ o. either (Decodes r) (unused r 3 5)
+      (λ _. either (Decodes r) (leb (byte r 1) 1) (λ _. cycle o) (λ _. malformed))
+      (λ _. malformed))
+      (λ _. malformed)))
+
+  pub decodes : Decodes r (decodeOf r)
+  unfolding decodeOf
+  decodes =
+      either (Decodes r) (eqb (byte r 0) 0)
+      (λ o. either (Decodes r) (unused r 1 7) (λ _. reset o) (λ _. malformed))
+      (λ _. either (Decodes r) (eqb (byte r 0) 1)
+      (λ o. either (Decodes r) (unused r 3 5)
+      (λ _. either (Decodes r) (writable (byte r 1)) (λ p. write o p) (λ _. malformed))
+      (λ _. malformed))
+      (λ _. either (Decodes r) (eqb (byte r 0) 2)
+      (λ o. either (Decodes r) (unused r 2 6)
+      (λ _. either (Decodes r) (readable (byte r 1)) (λ p. read o p) (λ _. malformed))
+      (λ _. malformed))
+      (λ _. either (Decodes r) (eqb (byte r 0) 3)
+      (λ o. either (Decodes r) (unused r 3 5) (λ _. lines o) (λ _. malformed))
+      (λ _. later))))

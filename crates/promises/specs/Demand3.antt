@@ -1,0 +1,83 @@
+-- Demand 3. Take any board reached from reset, at the end of a record, and any further tape on the same memory with no reset and no
+-- accepted write to the DMA chip.
+--
+-- Words.antt has the words: answersIn, unitsOf, lastAt (what answers report, by their bytes), placeOf, mayWrite (places and ranges),
+-- Calm (no reset, no accepted write to the chip) and Reached.
+use mathlib.Core.Path.{_≡_, refl, sym, ap, _∙_, subst}
+use mathlib.Core.List.{List, _++_}
+use mathlib.Core.Bool.{Bool, true, false}
+use Prim.Native.Nat.{ℕ, _+_, _*_, _≤_, _<_}
+use native.Mathlib.Omega.{arith}
+use lib.ListN.{getD, length, drop}
+use Rattle.bits.specs.Choice.{if_then_else_}
+use Rattle.dma.specs.declared.Dma.{Dma}
+use Rattle.dma.specs.Fields.{chan}
+use Rattle.dma.specs.Cycle.{down, auto, writes}
+use Rattle.board.specs.declared.Board.{Board}
+use Rattle.intake.specs.Ranges.{inRange}
+use Rattle.intake.specs.Feed.{after, bytesOf, countOf, taken, fedMemory, fedAnswers}
+use Rattle.promises.specs.Words.{answersIn, unitsOf, lastAt, placeOf, mayWrite, Calm, Reached, Typed}
+use Rattle.promises.specs.Sound.{Sound}
+use Rattle.promises.specs.Runs.{in-before, answered, traced, sound-of, reached-sound}
+use Rattle.promises.specs.Moves as the-moves
+use Rattle.promises.specs.Ranges as the-ranges
+use Rattle.promises.specs.Bytes as the-bytes
+
+-- What is promised of a run: from the DMA chip d and the memory m, with some answers, to the memory m′.
+pub record Bounded (d : Dma) (m : List ℕ) (answers : List (List ℕ)) (m′ : List ℕ) : Type 0 where
+  -- Each channel k without autoinitialize moves at most its current count plus one units.
+  -- Not so: a board that goes on after the end; one that serves a channel again though its end has masked it.
+  pub few : (k : ℕ) → auto (chan d k) ≡ false → length (unitsOf k answers) ≤ chan d k .current .count + 1
+  -- The first of them is at its current address, each further one a place on in its direction, modulo 16,777,216. (Unit i here is
+  -- the demand's k-th, with i = k - 1.)
+  -- Not so: a board whose address wraps at 65,536; one that always counts upwards.
+  pub places : (k : ℕ)
+      → auto (chan d k) ≡ false
+      → (i : ℕ)
+      → i < length (unitsOf k answers)
+      → getD (unitsOf k answers) i 0 ≡ placeOf (chan d k .current .address) (down (chan d k)) i
+  -- A memory byte stays unless some channel may write it: one that is set to write memory, and has the byte in its current range
+  -- (current count plus one bytes) or, where it autoinitializes, in its base range.
+  -- Not so: a board that clears memory at an end; one that writes on memory-to-device transfers too.
+  pub others : (p : ℕ) → ((k : ℕ) → k < 4 → mayWrite p (chan d k) ≡ false) → getD m′ p 0 ≡ getD m p 0
+  -- Any byte ends as the data of the last answer that reports a unit there by a channel set to write memory, or as it was if
+  -- none does.
+  -- Not so: a board that moves a unit and answers "nothing"; one that invents units, or reports other data than it writes.
+  pub ends : (p : ℕ) → p < length m → getD m′ p 0 ≡ lastAt (λ k. writes (chan d k)) p answers (getD m p 0)
+  -- The memory is as long as before.
+  pub long : length m′ ≡ length m
+
+bounded : (b : Board) (m s : List ℕ) (n : ℕ) → Sound (b .dma) → Calm b m s n
+    → Bounded (b .dma) m (answersIn (after b m s n .answers) n) (after b m s n .memory)
+bounded b m s n g c =
+    let t = traced b m s n g c in
+    record {
+      few = λ k h. the-moves.moves t k g h .0;
+      places = λ k h. the-moves.moves t k g h .1;
+      others = λ p f. the-ranges.keeps t p g f;
+      ends = λ p l. the-bytes.ends-as t p l;
+      long = the-bytes.long t;
+    }
+
+-- It holds of any board reached, any bytes s, and any number n of records of them.
+pub demand-3 : {b : Board} → Reached b → (m s : List ℕ) (n : ℕ) → Calm b m s n
+    → Bounded (b .dma) m (answersIn (after b m s n .answers) n) (after b m s n .memory)
+demand-3 {b} r m s n c = bounded b m s n (reached-sound r) c
+
+-- It holds of a board that no tape reaches, too, if only each field is in its range.
+pub in-range : (b : Board) → inRange b ≡ true → Typed b → (m s : List ℕ) (n : ℕ) → Calm b m s n
+    → Bounded (b .dma) m (answersIn (after b m s n .answers) n) (after b m s n .memory)
+in-range b h t m s n c = bounded b m s n (sound-of b t h) c
+
+-- So for a call that is taken: the lent memory afterwards, and the answers in the lent buffer. The bytes executed are those kept
+-- from the last call, and then the tape.
+pub of-a-call : {b : Board} → Reached b → (tape m answers : List ℕ)
+    → taken b tape (length answers) ≡ true
+    → Calm b m (bytesOf b tape) (countOf b tape)
+    → Bounded (b .dma) m (answersIn (fedAnswers b tape m answers) (countOf b tape)) (fedMemory b tape m (length answers))
+unfolding fedAnswers fedMemory
+of-a-call {b} r tape m answers h c =
+    let n = countOf b tape in
+    let run = after b m (bytesOf b tape) n in
+    rw (h, in-before (run .answers) (drop (16 * n) answers) n (omega (arith, answered b m (bytesOf b tape) n)))
+    (demand-3 r m (bytesOf b tape) n c)
