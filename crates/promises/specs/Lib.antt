@@ -14,5 +14,12 @@ pub mod IcuKept
 pub mod TimerKept
 pub mod BoardKept
 pub mod Reached
+pub mod Table
+pub mod Statuses
+pub mod Refusals
+pub mod Rows
+pub mod Calls
+pub mod Demand1
 pub mod Opened
 pub mod Examples
+pub mod Exact

@@ -28,13 +28,13 @@ use Rattle.promises.specs.Seen.{Trace, stop, snoc}
 use Rattle.promises.specs.Steps.{seen-step, step-sound, answer-length}
 
 -- The answers before the last, and the last.
-at-before : (a x : List ℕ) (i : ℕ) → 16 * i + 16 ≤ length a → answerAt (a ++ x) i ≡ answerAt a i
+pub at-before : (a x : List ℕ) (i : ℕ) → 16 * i + 16 ≤ length a → answerAt (a ++ x) i ≡ answerAt a i
 unfolding answerAt
 at-before a x i h =
     ap (take 16) (drop-append-le (16 * i) a x (omega arith))
     ∙ take-append-le 16 (drop (16 * i) a) x (rw (length-drop (16 * i) a) (omega arith))
 
-at-last : (a x : List ℕ) (i : ℕ) → length a ≡ 16 * i → length x ≡ 16 → answerAt (a ++ x) i ≡ x
+pub at-last : (a x : List ℕ) (i : ℕ) → length a ≡ 16 * i → length x ≡ 16 → answerAt (a ++ x) i ≡ x
 unfolding answerAt
 at-last a x i h l = ap (take 16) (drop-at a x (16 * i) h) ∙ take-all 16 x (omega arith)
 
