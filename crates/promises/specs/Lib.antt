@@ -20,6 +20,11 @@ pub mod Refusals
 pub mod Rows
 pub mod Calls
 pub mod Demand1
+pub mod Finish
+pub mod Counters
+pub mod Block
+pub mod Plain
+pub mod Taught
 pub mod Opened
 pub mod Examples
 pub mod Exact

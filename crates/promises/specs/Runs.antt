@@ -45,7 +45,7 @@ in-before a x (suc n) h =
     let l : 16 * n ≤ length a = omega arith in
     rw (in-before a x n l, at-before a x n (omega arith))
 
-in-more : (a x : List ℕ) (n : ℕ) → length a ≡ 16 * n → length x ≡ 16 → answersIn (a ++ x) (suc n) ≡ answersIn a n ++ x ∷ []
+pub in-more : (a x : List ℕ) (n : ℕ) → length a ≡ 16 * n → length x ≡ 16 → answersIn (a ++ x) (suc n) ≡ answersIn a n ++ x ∷ []
 unfolding answersIn
 in-more a x n h l = rw (in-before a x n (omega arith), at-last a x n h l)
 

@@ -441,7 +441,7 @@ module _ (b : Board) (p : ℕ) where
           rw (z, o, i, t, k, q, e) (shown (DmaRegisters.readOf (b .dma) p .status) _ _ b ∙ dma-reads (b .dma) p (w .0) (w .1))
 
 -- Whether a record is well formed is told by its bytes alone.
-abbrev asked : Decoded → Bool
+abbrev pub asked : Decoded → Bool
 asked Malformed = false
 asked (Asked o) = true
 

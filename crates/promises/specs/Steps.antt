@@ -59,7 +59,7 @@ won d k (suc left) h = at (ready d (channelAt d k)) refl (won d (suc k) left) h
 joined : (a : ℕ) → a < 16777216 → a % 256 + a / 256 % 256 * 256 + a / 65536 % 256 * 65536 + a / 16777216 % 256 * 16777216 ≡ a
 joined a h = omega arith
 
-abbrev cycleAnswer : ℕ → Told → List ℕ
+abbrev pub cycleAnswer : ℕ → Told → List ℕ
 cycleAnswer l t = answerOf 0 6 (t .byte) l (twelve (payloadOf t))
 
 seen-cycle : (d : Dma) (m : List ℕ) (e : Bool) (x l : ℕ) → Sound d

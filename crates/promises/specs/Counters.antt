@@ -1,0 +1,142 @@
+-- What ports change of a counter, and what they leave.
+use mathlib.Core.Path.{_≡_, refl, sym, ap, _∙_, subst}
+use mathlib.Core.Logic.{_≢_}
+use mathlib.Core.List.{List, [], _∷_}
+use mathlib.Core.Bool.{Bool, true, false, not}
+use Prim.Native.Nat.{ℕ, zero, suc, _+_, _*_, _/_, _≤_, _<_, _%_}
+use native.Mathlib.Omega.{arith}
+use lib.Dec.{eqb, ltb}
+use lib.ListN.{getD, set, length}
+use lib.Seq.{getD-set-same, getD-set-other, set-out}
+use borrow.Author.Tests.{eqb-true, eqb-false, ltb-true, ltb-false, ne-eqb}
+use Rattle.bits.specs.Choice.{if_then_else_, _and_, _or_}
+use Rattle.timer.specs.declared.Counter.{Counter}
+use Rattle.timer.specs.declared.Timer.{Timer}
+use Rattle.timer.specs.declared.Written.{Written}
+use Rattle.timer.specs.declared.Got.{Got}
+use Rattle.timer.specs.Ports.{Answer, SC, RWM, CM, BCD, moded, modeSet, modeWord, latchWord, controlOf, completed, countOf, begun, writeOf, readOf}
+use Rattle.timer.specs.Timer.{blank, at, wroteBy, gotBy, controlsOf, writesOf, readsOf}
+use Rattle.promises.specs.Decodes.{either}
+
+-- Where a writing stands: the first byte of two, kept apart, and the last complete count with what it waits for.
+pub record Writing : Type 0 where
+  pub half : Bool
+  pub low : ℕ
+  pub count : ℕ
+  pub full : Bool
+  pub pending : Bool
+
+unfoldable pub writingOf : Counter → Writing
+writingOf c = record { half = c .half; low = c .low; count = c .count; full = c .full; pending = c .pending }
+
+-- Where a reading stands: which byte is next, and what is latched.
+pub record Reading : Type 0 where
+  pub second : Bool
+  pub latched : Bool
+  pub latch : ℕ
+
+unfoldable pub readingOf : Counter → Reading
+readingOf c = record { second = c .second; latched = c .latched; latch = c .latch }
+
+unfoldable pub valueOf : Counter → ℕ
+valueOf c = c .value
+
+-- One counter replaced by one that has the same, of whatever is looked at.
+put-same : {A : Type 0} (f : Counter → A) (l : List Counter) (i : ℕ) (c : Counter) → f c ≡ f (getD l i blank)
+    → (n : ℕ)
+    → f (getD (set l i c) n blank) ≡ f (getD l n blank)
+put-same f l i c h n = by (eqb n i) (ltb i (length l)) refl refl
+  where
+    by : (q u : Bool) → eqb n i ≡ q → ltb i (length l) ≡ u → f (getD (set l i c) n blank) ≡ f (getD l n blank)
+    by false u q v = ap f (getD-set-other l i n c blank (eqb-false n i q))
+    by true false q v = rw (set-out l i c (ltb-false i (length l) v))
+    by true true q v = rw (eqb-true n i q, getD-set-same l i c blank (ltb-true i (length l) v)) h
+
+-- Writing leaves the counter's value.
+module _ (c : Counter) where
+  abbrev S : Answer → Type 0
+  S a = valueOf (a .counter) ≡ valueOf c
+
+  control-value : (w : ℕ) → S (controlOf c w)
+  unfolding controlOf latchWord modeWord modeSet valueOf
+  control-value w =
+      either S (eqb (RWM w) 0)
+      (λ _. either S (moded c) (λ _. either S (c .latched) (λ _. refl) (λ _. refl)) (λ _. refl))
+      (λ _. either S (eqb (BCD w) 1) (λ _. refl)
+      (λ _. either S (eqb (CM w) 0) (λ _. refl) (λ _. either S (eqb (CM w % 4) 2) (λ _. refl) (λ _. refl))))
+
+  -- A count byte leaves the value and where a reading stands.
+  module _ {A : Type 0} (f : Counter → A)
+      (done : (n : ℕ) → f (completed c n) ≡ f c)
+      (half : (x : ℕ) → f (begun c x) ≡ f c) where
+    abbrev F : Answer → Type 0
+    F a = f (a .counter) ≡ f c
+
+    count-same : (n : ℕ) → F (countOf c n)
+    unfolding countOf
+    count-same n = either F (eqb (c .mode) 2 and eqb n 1) (λ _. refl) (λ _. done n)
+
+    write-same : (x : ℕ) → F (writeOf c x)
+    unfolding writeOf
+    write-same x =
+        either F (moded c)
+        (λ _. either F (eqb (c .format) 1) (λ _. count-same x)
+        (λ _. either F (eqb (c .format) 2) (λ _. count-same (x * 256))
+        (λ _. either F (c .half) (λ _. count-same (c .low + x * 256)) (λ _. half x))))
+        (λ _. refl)
+
+  write-value : (x : ℕ) → valueOf (writeOf c x .counter) ≡ valueOf c
+  unfolding completed begun valueOf
+  write-value x =
+      write-same valueOf
+      (λ n. either (λ (d : Counter). valueOf d ≡ valueOf c) (eqb (c .mode) 0) (λ _. refl) (λ _. either (λ (d : Counter). valueOf d ≡ valueOf c) (c .full) (λ _. refl) (λ _. refl)))
+      (λ y. either (λ (d : Counter). valueOf d ≡ valueOf c) (eqb (c .mode) 0) (λ _. refl) (λ _. refl))
+      x
+
+  write-reading : (x : ℕ) → readingOf (writeOf c x .counter) ≡ readingOf c
+  unfolding completed begun readingOf
+  write-reading x =
+      write-same readingOf
+      (λ n. either (λ (d : Counter). readingOf d ≡ readingOf c) (eqb (c .mode) 0) (λ _. refl) (λ _. either (λ (d : Counter). readingOf d ≡ readingOf c) (c .full) (λ _. refl) (λ _. refl)))
+      (λ y. either (λ (d : Counter). readingOf d ≡ readingOf c) (eqb (c .mode) 0) (λ _. refl) (λ _. refl))
+      x
+
+  -- A read leaves the value and where a writing stands.
+  abbrev R : Answer → Type 0
+  R a = (writingOf (a .counter) ≡ writingOf c) × (valueOf (a .counter) ≡ valueOf c)
+
+  read-same : R (readOf c)
+  unfolding readOf writingOf valueOf
+  read-same =
+      either R (moded c)
+      (λ _. either R (eqb (c .format) 1) (λ _. (refl, refl))
+      (λ _. either R (eqb (c .format) 2) (λ _. (refl, refl))
+      (λ _. either R (c .second) (λ _. (refl, refl)) (λ _. (refl, refl)))))
+      (λ _. (refl, refl))
+
+-- All three.
+module _ (t : Timer) (n : ℕ) where
+  pub writes-value : (a x : ℕ) → valueOf (at (writesOf t a x .timer) n) ≡ valueOf (at t n)
+  unfolding writesOf controlsOf wroteBy
+  writes-value a x =
+      either (λ (w : Written). valueOf (at (w .timer) n) ≡ valueOf (at t n)) (eqb (a % 4) 3)
+      (λ _. either (λ (w : Written). valueOf (at (w .timer) n) ≡ valueOf (at t n)) (eqb (SC x) 3) (λ _. refl)
+      (λ _. put-same valueOf (t .counters) (SC x) (controlOf (at t (SC x)) x .counter) (control-value (at t (SC x)) x) n))
+      (λ _. put-same valueOf (t .counters) (a % 4) (writeOf (at t (a % 4)) x .counter) (write-value (at t (a % 4)) x) n)
+
+  pub writes-reading : (a x : ℕ) → eqb (a % 4) 3 ≡ false → readingOf (at (writesOf t a x .timer) n) ≡ readingOf (at t n)
+  unfolding writesOf wroteBy
+  writes-reading a x h =
+      rw h (put-same readingOf (t .counters) (a % 4) (writeOf (at t (a % 4)) x .counter) (write-reading (at t (a % 4)) x) n)
+
+  pub reads-writing : (a : ℕ) → writingOf (at (readsOf t a .timer) n) ≡ writingOf (at t n)
+  unfolding readsOf gotBy
+  reads-writing a =
+      either (λ (w : Got). writingOf (at (w .timer) n) ≡ writingOf (at t n)) (eqb (a % 4) 3) (λ _. refl)
+      (λ _. put-same writingOf (t .counters) (a % 4) (readOf (at t (a % 4)) .counter) (read-same (at t (a % 4)) .0) n)
+
+  pub reads-value : (a : ℕ) → valueOf (at (readsOf t a .timer) n) ≡ valueOf (at t n)
+  unfolding readsOf gotBy
+  reads-value a =
+      either (λ (w : Got). valueOf (at (w .timer) n) ≡ valueOf (at t n)) (eqb (a % 4) 3) (λ _. refl)
+      (λ _. put-same valueOf (t .counters) (a % 4) (readOf (at t (a % 4)) .counter) (read-same (at t (a % 4)) .1) n)
