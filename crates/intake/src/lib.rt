@@ -16,6 +16,7 @@ use timer::Counter;
 use timer::Timer;
 
 // What a call comes to: 0 and the records that it took, or 7 and none.
+#[repr(C)]
 pub struct Fed {
     pub status: u8,
     pub records: usize,
