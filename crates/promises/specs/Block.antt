@@ -2,24 +2,24 @@
 use mathlib.Core.Path.{_≡_, refl, sym, ap, _∙_, subst}
 use mathlib.Core.Logic.{_≢_}
 use mathlib.Core.List.{List, [], _∷_, _++_}
-use mathlib.Core.Bool.{Bool, true, false, not, true≢false, false≢true}
-use Prim.Native.Nat.{ℕ, zero, suc, _+_, _-_, _*_, _/_, _≤_, _<_, _%_}
+use mathlib.Core.Bool.{Bool, true, false, false≢true}
+use Prim.Native.Nat.{ℕ, zero, suc, _+_, _-_, _/_, _≤_, _<_}
 use native.Mathlib.Omega.{arith}
-use lib.Dec.{eqb, ltb}
+use lib.Dec.{eqb}
 use lib.ListN.{getD, set, length, length-set}
 use lib.Seq.{getD-set-same}
-use borrow.Author.Tests.{eqb-true, eqb-false, eq-eqb, ne-eqb}
-use Rattle.bits.specs.Choice.{if_then_else_, _and_, _or_}
-use Rattle.bits.specs.Bits.{bitOf, less}
-use Rattle.tape.specs.declared.Operation.the-variants.{Reset, Write, Read, Intp, Gates, Requests, Acknowledge, Advance, Cycle}
+use borrow.Author.Tests.{eqb-true, eq-eqb, ne-eqb}
+use Rattle.bits.specs.Choice.{if_then_else_, _and_}
+use Rattle.bits.specs.Bits.{less}
+use Rattle.tape.specs.declared.Operation.the-variants.{Cycle}
 use Rattle.tape.specs.declared.Decoded.{Decoded}
-use Rattle.tape.specs.declared.Decoded.the-variants.{Asked, Malformed}
+use Rattle.tape.specs.declared.Decoded.the-variants.{Asked}
 use Rattle.tape.specs.Records.{byte, decodeOf}
 use Rattle.tape.specs.Answers.{answerOf}
 use Rattle.dma.specs.declared.Channel.{Channel}
 use Rattle.dma.specs.declared.Dma.{Dma}
 use Rattle.dma.specs.Fields.{none, chan, served}
-use Rattle.dma.specs.Cycle.{demand, single, auto, movedBy, movedOf, lastOf, stopsOf, releases, unitBy, unitOf, cycleBy, winner, settledOf}
+use Rattle.dma.specs.Cycle.{movedOf, unitBy, unitOf}
 use Rattle.dma.specs.Cycle as DmaCycle
 use Rattle.board.specs.declared.Board.{Board}
 use Rattle.board.specs.declared.Outcome.{Outcome}
@@ -28,14 +28,13 @@ use Rattle.board.specs.Operations.{refused, cycleOf}
 use Rattle.board.specs.Step.{executeOf, blocked, outcomeOf, answeredOf, stepOf}
 use Rattle.intake.specs.Records.{recordAt}
 use Rattle.intake.specs.Feed.{Run, after}
-use Rattle.promises.specs.Decodes.{either, Decodes, malformed, reset, write, read, intp, gates, requests, acknowledge, advance, cycle, decodes}
+use Rattle.promises.specs.Decodes.{Decodes, malformed, reset, write, read, intp, gates, requests, acknowledge, advance, cycle, decodes}
 use Rattle.promises.specs.Logic.{both-left, both-right}
 use Rattle.promises.specs.Table.{formed}
 use Rattle.promises.specs.Statuses.{asked, formed-asked}
 use Rattle.promises.specs.Words as Words
 use Rattle.promises.specs.Words.{answersIn, unitsOf}
 use Rattle.promises.specs.Steps.{cycleAnswer, answer-length}
-use Rattle.promises.specs.Change.{moved-mode}
 use Rattle.promises.specs.Runs.{in-more, answered}
 
 -- The record is a DMA cycle with END 0.

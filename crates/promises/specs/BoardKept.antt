@@ -1,20 +1,17 @@
 -- Every record leaves the board in its ranges.
-use mathlib.Core.Path.{_≡_, refl, sym, ap, _∙_, subst}
+use mathlib.Core.Path.{_≡_, refl}
 use mathlib.Core.List.{List}
-use mathlib.Core.Bool.{Bool, true, false, not}
-use Prim.Native.Nat.{ℕ, zero, suc, _+_, _/_, _≤_, _<_, _%_}
+use mathlib.Core.Bool.{true}
+use Prim.Native.Nat.{ℕ, zero, suc, _/_, _<_, _%_}
 use native.Mathlib.Omega.{arith}
-use lib.Dec.{eqb, ltb}
+use lib.Dec.{eqb}
 use lib.ListN.{length}
 use borrow.Author.Tests.{lt-ltb}
-use Rattle.bits.specs.Choice.{if_then_else_, _and_}
 use Rattle.icu.specs.declared.Icu.{Icu}
 use Rattle.timer.specs.declared.Timer.{Timer}
 use Rattle.timer.specs.Timer.{writesOf, readsOf}
-use Rattle.tape.specs.declared.Operation.{Operation}
 use Rattle.tape.specs.declared.Operation.the-variants.{Reset, Write, Read, Intp, Gates, Requests, Acknowledge, Advance, Cycle}
 use Rattle.tape.specs.declared.Decoded.{Decoded}
-use Rattle.tape.specs.declared.Decoded.the-variants.{Asked, Malformed}
 use Rattle.tape.specs.Records.{byte, decodeOf, pulseCount}
 use Rattle.dma.specs.declared.Channel.{Channel}
 use Rattle.dma.specs.declared.Dma.{Dma}
@@ -28,12 +25,11 @@ use Rattle.board.specs.Advance.{tickOf, advancedOf, advanceOf}
 use Rattle.board.specs.Step.{executeOf, blocked, outcomeOf, answeredOf, stepOf}
 use Rattle.intake.specs.declared.Fed.{Fed}
 use Rattle.intake.specs.Records.{recordAt}
-use Rattle.intake.specs.Ranges.{icuGood, timerGood, channelGood, channelsGood, dmaGood, inRange}
-use Rattle.intake.specs.Feed.{Run, after, bytesOf, countOf, taken, fedOf}
+use Rattle.intake.specs.Ranges.{channelGood, channelsGood, dmaGood}
+use Rattle.intake.specs.Feed.{after, bytesOf, countOf, taken, fedOf}
 use Rattle.promises.specs.Decodes.{either, Decodes, malformed, reset, write, read, intp, gates, requests, acknowledge, advance, cycle, decodes}
 use Rattle.promises.specs.Words.{Reached, unfed, fed}
-use Rattle.promises.specs.Sound.{Good, Sound, reset-sound}
-use Rattle.promises.specs.Steps.{step-sound}
+use Rattle.promises.specs.Sound.{Good, Sound}
 use Rattle.promises.specs.IcuKept as the-icu
 use Rattle.promises.specs.TimerKept as the-timer
 

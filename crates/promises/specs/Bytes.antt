@@ -1,8 +1,7 @@
 -- A byte ends as the data of the last unit reported there by a channel that writes memory.
 use mathlib.Core.Path.{_≡_, refl, sym, ap, _∙_, subst}
-use mathlib.Core.Logic.{_≢_}
-use mathlib.Core.List.{List, [], _∷_}
-use mathlib.Core.Bool.{Bool, true, false, true≢false}
+use mathlib.Core.List.{List}
+use mathlib.Core.Bool.{Bool, true, false}
 use Prim.Native.Nat.{ℕ, _<_, _/_, _%_}
 use lib.Dec.{eqb}
 use lib.ListN.{getD, set, length}

@@ -1,19 +1,19 @@
 -- What one record does to one channel.
 use mathlib.Core.Path.{_≡_, refl, sym, ap, _∙_, subst}
 use mathlib.Core.Logic.{_≢_}
-use mathlib.Core.List.{List, [], _∷_}
-use mathlib.Core.Bool.{Bool, true, false, true≢false, false≢true}
+use mathlib.Core.List.{List}
+use mathlib.Core.Bool.{Bool, true, false, true≢false}
 use Prim.Native.Nat.{ℕ, _<_}
 use lib.Dec.{eqb, ltb}
 use lib.ListN.{getD, set, length, length-set}
 use lib.Seq.{getD-set-same, getD-set-other}
 use borrow.Author.Tests.{eqb-true, eqb-false, eq-eqb}
-use Rattle.bits.specs.Choice.{if_then_else_, _and_}
+use Rattle.bits.specs.Choice.{if_then_else_}
 use Rattle.dma.specs.declared.Channel.{Channel}
 use Rattle.dma.specs.declared.Dma.{Dma}
 use Rattle.dma.specs.Fields.{none, chan, served}
 use Rattle.dma.specs.Cycle.{auto, writes, movedBy, movedOf}
-use Rattle.promises.specs.Words.{unitOf, channelIn, addressIn, dataIn}
+use Rattle.promises.specs.Words.{unitOf, addressIn, dataIn}
 use Rattle.promises.specs.Sound.{Sound}
 use Rattle.promises.specs.Seen.{Seen, still, unit, Serves, goes-on, starts}
 

@@ -2,13 +2,12 @@
 -- changes no chip and no memory, and its answer is fixed. Too small an answer buffer refuses the whole call and changes nothing.
 --
 -- All of it holds of every board, in its ranges or not. Table.antt has the rows of the status table in words.
-use mathlib.Core.Path.{_≡_, refl, sym, ap, _∙_}
+use mathlib.Core.Path.{_≡_, sym, ap, _∙_}
 use mathlib.Core.Logic.{_↔_, _≢_, _⊎_, inl, inr}
-use mathlib.Core.List.{List, [], _∷_, _++_}
-use mathlib.Core.Bool.{Bool, true, false, not, true≢false}
-use Prim.Native.Nat.{ℕ, _+_, _*_, _/_, _≤_, _<_}
-use native.Mathlib.Omega.{arith}
-use lib.Dec.{eqb, ltb, leb}
+use mathlib.Core.List.{List, [], _∷_}
+use mathlib.Core.Bool.{Bool, true, false, not}
+use Prim.Native.Nat.{ℕ, _*_, _<_}
+use lib.Dec.{leb}
 use lib.ListN.{getD, length, drop}
 use borrow.Author.Tests.{ne-eqb, not-true}
 use Rattle.bits.specs.Choice.{if_then_else_, _and_}
@@ -16,7 +15,6 @@ use Rattle.tape.specs.Records.{byte}
 use Rattle.board.specs.declared.Board.{Board}
 use Rattle.board.specs.Wiring.{levelsOf}
 use Rattle.board.specs.Step.{stepOf, stepMemory}
-use Rattle.intake.specs.declared.Fed.{Fed}
 use Rattle.intake.specs.Records.{recordAt}
 use Rattle.intake.specs.Ranges.{inRange}
 use Rattle.intake.specs.Feed.{after, bytesOf, countOf, taken, fedOf, fedMemory, fedAnswers}

@@ -1,23 +1,23 @@
 -- The interrupt chip stays in its ranges.
-use mathlib.Core.Path.{_≡_, refl, sym, ap, _∙_, subst}
+use mathlib.Core.Path.{_≡_, refl, sym, _∙_}
 use mathlib.Core.Logic.{_≢_}
 use mathlib.Core.Bool.{Bool, true, false, true≢false, false≢true}
-use Prim.Native.Nat.{ℕ, zero, suc, _+_, _-_, _/_, _≤_, _<_, _%_, _^_}
-use native.Mathlib.Nat.{add-zero, add-suc}
+use Prim.Native.Nat.{ℕ, zero, suc, _+_, _-_, _/_, _<_, _%_}
+use native.Mathlib.Nat.{add-zero}
 use native.Mathlib.Omega.{arith}
-use lib.Dec.{eqb, ltb}
-use borrow.Author.Tests.{eqb-true, eqb-false, lt-ltb}
+use lib.Dec.{eqb}
+use borrow.Author.Tests.{eqb-false, lt-ltb}
 use Rattle.bits.specs.Choice.{if_then_else_, _and_, _or_, some}
 use Rattle.bits.specs.Bits.{bitOf, withOf, withoutOf}
 use Rattle.icu.specs.declared.Icu.{Icu}
 use Rattle.icu.specs.Answers.{Told}
 use Rattle.icu.specs.Ranks.{levelAt, highestFrom, highestOf}
-use Rattle.icu.specs.Words.{ready, lev, i4, resetOf, iw1, laterWord, setsExceptional, mcw, finished, commanded, pfcw, writeOf}
+use Rattle.icu.specs.Words.{ready, lev, i4, resetOf, iw1, laterWord, setsExceptional, mcw, finished, pfcw, writeOf}
 use Rattle.icu.specs.Requests.{askedOf, outranksAll, intOf, linesOf}
 use Rattle.icu.specs.Service.{takes, servedOf, acknowledgeOf, readOf}
 use Rattle.intake.specs.Ranges.{iw1Good, icuGood}
 use Rattle.promises.specs.Decodes.{either}
-use Rattle.promises.specs.Logic.{both, both-left, both-right}
+use Rattle.promises.specs.Logic.{both-left, both-right}
 
 pub record Fine (c : Icu) : Type 0 where
   pub stage : c .stage < 4
@@ -56,7 +56,7 @@ found f (suc n) h = at (f n) refl h (found f n)
     at false q h ih = let r = ih h in (r .0, omega (arith, r .1), r .2)
 
 -- A byte that is not zero has a bit.
-bit-of : (x : ℕ) → x < 256 → x ≢ 0 → (n : ℕ) × (n < 8) × (bitOf x n ≡ true)
+pub bit-of : (x : ℕ) → x < 256 → x ≢ 0 → (n : ℕ) × (n < 8) × (bitOf x n ≡ true)
 unfolding bitOf
 bit-of x h ne = go7 (eqb (x / 128 % 2) 1) refl h
   where

@@ -25,6 +25,8 @@ pub mod Counters
 pub mod Block
 pub mod Plain
 pub mod Taught
+pub mod Meant
+pub mod Worked
 pub mod Opened
 pub mod Examples
 pub mod Exact

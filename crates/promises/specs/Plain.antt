@@ -1,23 +1,22 @@
 -- Records of a write, a read and one pulse, as they are carried out.
-use mathlib.Core.Path.{_≡_, refl, sym, ap, _∙_, subst}
+use mathlib.Core.Path.{_≡_, refl, sym, ap, _∙_}
 use mathlib.Core.List.{List, [], _∷_}
-use mathlib.Core.Bool.{Bool, true, false, not, true≢false}
-use Prim.Native.Nat.{ℕ, zero, suc, _+_, _/_, _%_, _≤_, _<_, _^_}
+use mathlib.Core.Bool.{Bool, true, false, true≢false}
+use Prim.Native.Nat.{ℕ, zero, suc, _/_, _%_, _≤_, _<_}
 use native.Mathlib.Omega.{arith}
-use lib.Dec.{T, eqb, leb}
+use lib.Dec.{eqb}
 use lib.ListN.{getD}
-use borrow.Author.Tests.{eq-eqb, ne-eqb, eqb-true}
+use borrow.Author.Tests.{eq-eqb, ne-eqb}
 use Rattle.bits.specs.Choice.{if_then_else_, _and_, _or_, every}
 use Rattle.bits.specs.Bits.{bitOf, withoutOf}
 use Rattle.bits.proofs.Every.{alike}
-use Rattle.tape.specs.declared.Operation.the-variants.{Write, Read, Advance}
+use Rattle.tape.specs.declared.Operation.the-variants.{Write, Read}
 use Rattle.tape.specs.declared.Decoded.{Decoded}
 use Rattle.tape.specs.declared.Decoded.the-variants.{Asked, Malformed}
-use Rattle.tape.specs.Records.{byte, unused, writable, readable, pulseCount, laterAsked, decodeOf}
+use Rattle.tape.specs.Records.{unused, writable, readable, pulseCount, laterAsked, decodeOf}
 use Rattle.tape.specs.Answers.{answerOf}
 use Rattle.icu.specs.declared.Icu.{Icu}
 use Rattle.icu.specs.Fields.{imr-is, isr-is}
-use Rattle.icu.specs.Ranks.{highestOf}
 use Rattle.icu.specs.Words as IcuWords
 use Rattle.icu.specs.Words.{ready}
 use Rattle.icu.specs.Requests.{irrOf}

@@ -1,19 +1,17 @@
 -- The rows of the table, by their tests.
-use mathlib.Core.Path.{_≡_, refl, sym, ap, _∙_}
+use mathlib.Core.Path.{_≡_, refl, sym, _∙_}
 use mathlib.Core.Logic.{_↔_}
 use mathlib.Core.List.{List, _++_}
 use mathlib.Core.Bool.{Bool, true, false, not}
-use Prim.Native.Nat.{ℕ, zero, suc, _+_, _*_, _/_, _≤_, _<_}
+use Prim.Native.Nat.{ℕ, zero, suc, _*_, _/_, _<_}
 use native.Mathlib.Omega.{arith}
 use lib.Dec.{eqb, ltb, leb}
-use lib.ListN.{length, drop}
-use lib.Seq.{drop-append-le, take-append-le, drop-at}
 use borrow.Author.Tests.{eqb-true, eq-eqb, ltb-true, ltb-false, le-leb, lt-leb}
 use Rattle.bits.specs.Choice.{if_then_else_, _and_}
 use Rattle.board.specs.declared.Board.{Board}
 use Rattle.board.specs.Step.{stepOf}
 use Rattle.intake.specs.Records.{recordAt}
-use Rattle.intake.specs.Feed.{Run, after}
+use Rattle.intake.specs.Feed.{after}
 use Rattle.promises.specs.Words.{answerAt}
 use Rattle.promises.specs.Steps.{answer-length}
 use Rattle.promises.specs.Runs.{at-before, at-last, answered}

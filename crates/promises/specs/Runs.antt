@@ -1,18 +1,16 @@
 -- A run of records, as a trace of the DMA chip and as sixteen bytes for each record.
 use mathlib.Core.Path.{_≡_, refl, sym, ap, _∙_, subst}
 use mathlib.Core.List.{List, [], _∷_, _++_}
-use mathlib.Core.Bool.{Bool, true, false, not, true≢false, false≢true}
-use Prim.Native.Nat.{ℕ, zero, suc, _+_, _*_, _%_, _≤_, _<_}
+use mathlib.Core.Bool.{Bool, true, false, not, false≢true}
+use Prim.Native.Nat.{ℕ, zero, suc, _+_, _*_, _%_, _≤_}
 use native.Mathlib.Omega.{arith}
-use lib.Dec.{eqb, ltb, leb}
-use lib.ListN.{getD, length, take, drop, length-append, length-drop, List·getD-eq-default}
+use lib.Dec.{eqb, ltb}
+use lib.ListN.{length, take, drop, length-append, length-drop, List·getD-eq-default}
 use lib.Seq.{drop-append-le, take-append-le, drop-at, take-all}
-use borrow.Author.Tests.{ltb-true, lt-ltb}
-use Rattle.bits.specs.Choice.{if_then_else_, _and_, _or_}
+use borrow.Author.Tests.{ltb-true}
+use Rattle.bits.specs.Choice.{_and_}
 use Rattle.dma.specs.declared.Channel.{Channel}
-use Rattle.dma.specs.declared.Dma.{Dma}
 use Rattle.dma.specs.Fields.{none, chan}
-use Rattle.dma.specs.Registers.{unbuiltMode}
 use Rattle.board.specs.declared.Board.{Board}
 use Rattle.board.specs.Wiring.{freshOf}
 use Rattle.board.specs.Step.{stepOf, stepMemory}

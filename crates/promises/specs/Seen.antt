@@ -1,9 +1,9 @@
 -- One record, seen from the channels of the DMA chip.
-use mathlib.Core.Path.{_≡_, refl, sym, ap, _∙_}
+use mathlib.Core.Path.{_≡_, sym, _∙_}
 use mathlib.Core.Logic.{_≢_}
 use mathlib.Core.List.{List, [], _∷_, _++_}
 use mathlib.Core.Bool.{Bool, true, false}
-use Prim.Native.Nat.{ℕ, _<_}
+use Prim.Native.Nat.{ℕ}
 use lib.ListN.{set}
 use Rattle.dma.specs.declared.Dma.{Dma}
 use Rattle.dma.specs.Fields.{chan, served}

@@ -1,15 +1,14 @@
 -- What holds of every DMA chip in its ranges, and stays so.
-use mathlib.Core.Path.{_≡_, refl, sym, ap, _∙_, subst}
-use mathlib.Core.Logic.{_≢_}
+use mathlib.Core.Path.{_≡_, refl, _∙_}
 use mathlib.Core.List.{List, [], _∷_}
-use mathlib.Core.Bool.{Bool, true, false, not, true≢false, false≢true}
-use Prim.Native.Nat.{ℕ, zero, suc, _+_, _*_, _/_, _≤_, _<_, _%_, _^_}
+use mathlib.Core.Bool.{Bool, true, false, true≢false}
+use Prim.Native.Nat.{ℕ, zero, suc, _+_, _/_, _<_, _%_}
 use native.Mathlib.Omega.{arith}
 use lib.Dec.{eqb, ltb, leb}
 use lib.ListN.{getD, set, length, length-set}
 use lib.Seq.{getD-set-same, getD-set-other, set-out}
 use borrow.Author.Tests.{eqb-true, eqb-false, ltb-true, ltb-false}
-use Rattle.bits.specs.Choice.{if_then_else_, _and_, _or_}
+use Rattle.bits.specs.Choice.{if_then_else_, _and_}
 use Rattle.bits.specs.Bits.{bitOf, withOf, maskedOf}
 use Rattle.dma.specs.declared.Span.{Span}
 use Rattle.dma.specs.declared.Channel.{Channel}
@@ -17,8 +16,8 @@ use Rattle.dma.specs.declared.Dma.{Dma}
 use Rattle.dma.specs.declared.Written.{Written}
 use Rattle.dma.specs.declared.Got.{Got}
 use Rattle.dma.specs.Fields.{none, chan, selected, served, masked-is, requests-are}
-use Rattle.dma.specs.Registers.{unset, chosen, resetOf, requestedOf, unbuiltMode, byte-is, replacedOf, initializedOf, selectedOf, loadedOf, controlledOf, heldZero, modedOf, maskedBy, writeAt, writeOf, statusShown, readAt, readOf}
-use Rattle.dma.specs.Cycle.{down, auto, stepped, next, movedBy, movedOf, ready, channelAt, winnerFrom, winner, firstAfter, endsAfter, lastOf, stopsOf, releases, nothingOf, grantedOf, releasedOf, settledOf, unitBy, unitOf, cycleBy, cycleOf}
+use Rattle.dma.specs.Registers.{unset, chosen, resetOf, requestedOf, unbuiltMode, replacedOf, initializedOf, selectedOf, loadedOf, controlledOf, modedOf, maskedBy, writeOf, readOf}
+use Rattle.dma.specs.Cycle.{down, auto, stepped, movedBy, movedOf, ready, channelAt, winnerFrom, winner, firstAfter, lastOf, stopsOf, releases, nothingOf, grantedOf, releasedOf, unitOf, cycleBy, cycleOf}
 use Rattle.promises.specs.Decodes.{either}
 
 pub record Good (c : Channel) : Type 0 where

@@ -1,12 +1,12 @@
 -- Each record's status is the one that the table gives.
-use mathlib.Core.Path.{_≡_, refl, sym, ap, _∙_, subst}
+use mathlib.Core.Path.{_≡_, refl, sym, _∙_}
 use mathlib.Core.List.{List}
 use mathlib.Core.Bool.{Bool, true, false, not, true≢false, false≢true}
 use Prim.Native.Nat.{ℕ, _+_, _*_, _/_, _%_, _≤_, _<_}
 use native.Mathlib.Omega.{arith}
 use lib.Dec.{eqb, ltb, leb}
 use lib.ListN.{getD}
-use borrow.Author.Tests.{eqb-true, eqb-false, ltb-true, ltb-false, leb-true, leb-false, lt-ltb, le-ltb, le-leb, lt-leb, eq-eqb, ne-eqb, not-true}
+use borrow.Author.Tests.{eqb-true, eqb-false, ltb-true, leb-true, leb-false, lt-ltb, le-ltb, le-leb, lt-leb, eq-eqb, ne-eqb, not-true}
 use Rattle.bits.specs.Choice.{if_then_else_, _and_, _or_}
 use Rattle.bits.specs.Bits.{bitOf, maskedOf}
 use Rattle.tape.specs.declared.Operation.{Operation}
@@ -23,13 +23,11 @@ use Rattle.icu.specs.Service as IcuService
 use Rattle.icu.specs.Requests.{irrOf, intOf}
 use Rattle.timer.specs.declared.Counter.{Counter}
 use Rattle.timer.specs.declared.Timer.{Timer}
-use Rattle.timer.specs.declared.Written.{Written}
 use Rattle.timer.specs.Fields.{latched-is, latch-is, second-is}
 use Rattle.timer.specs.Ports as Ports
 use Rattle.timer.specs.Ports.{SC, RWM, CM, BCD, moded, held}
 use Rattle.timer.specs.Timer.{at, writesOf, readsOf, controlsOf, wroteBy, gotBy}
 use Rattle.dma.specs.declared.Dma.{Dma}
-use Rattle.dma.specs.declared.Span.{Span}
 use Rattle.dma.specs.declared.Written.{Written as DmaWritten}
 use Rattle.dma.specs.declared.Got.{Got as DmaGot}
 use Rattle.dma.specs.Fields.{requests-are}
@@ -37,8 +35,8 @@ use Rattle.dma.specs.Registers as DmaRegisters
 use Rattle.dma.specs.Registers.{unbuiltMode}
 use Rattle.board.specs.declared.Board.{Board}
 use Rattle.board.specs.declared.Outcome.{Outcome}
-use Rattle.board.specs.Wiring.{lines, int}
-use Rattle.board.specs.Operations.{a0, icuTold, icuWritten, icuShown, acknowledged, done, telling, refused, timerWritten, timerShown, dmaWritten, dmaShown, writeOf, readOf, cycleOf}
+use Rattle.board.specs.Wiring.{lines}
+use Rattle.board.specs.Operations.{a0, icuTold, icuWritten, icuShown, done, telling, refused, timerWritten, timerShown, dmaWritten, dmaShown, writeOf, readOf, cycleOf}
 use Rattle.board.specs.Advance.{advanceOf}
 use Rattle.board.specs.Step.{executeOf, blocked, outcomeOf, answeredOf, stepOf}
 use Rattle.promises.specs.Decodes.{either, Decodes, malformed, reset, write, read, intp, gates, requests, acknowledge, advance, cycle, decodes}

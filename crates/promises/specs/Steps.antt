@@ -1,19 +1,19 @@
 -- One record of a tape, seen from the DMA chip.
-use mathlib.Core.Path.{_≡_, refl, sym, ap, ap₂, _∙_, subst}
+use mathlib.Core.Path.{_≡_, refl, sym, ap, ap₂, _∙_}
 use mathlib.Core.Logic.{_≢_}
-use mathlib.Core.List.{List, [], _∷_}
+use mathlib.Core.List.{List}
 use mathlib.Core.Bool.{Bool, true, false, not, true≢false, false≢true}
-use Prim.Native.Nat.{ℕ, zero, suc, _+_, _*_, _/_, _≤_, _<_, _%_}
+use Prim.Native.Nat.{ℕ, zero, suc, _+_, _*_, _/_, _<_, _%_}
 use native.Mathlib.Omega.{arith}
 use lib.Dec.{eqb, ltb, leb}
-use lib.ListN.{getD, set, length}
+use lib.ListN.{getD, length}
 use borrow.Author.Tests.{eqb-true, eqb-false, ltb-true, leb-true}
 use Rattle.bits.specs.Choice.{if_then_else_, _and_, _or_}
 use Rattle.tape.specs.declared.Operation.{Operation}
 use Rattle.tape.specs.declared.Operation.the-variants.{Reset, Write, Read, Intp, Gates, Requests, Acknowledge, Advance, Cycle}
 use Rattle.tape.specs.declared.Decoded.{Decoded}
 use Rattle.tape.specs.declared.Decoded.the-variants.{Asked, Malformed}
-use Rattle.tape.specs.Records.{byte, writable, icuPort, timerPort, dmaPort, decodeOf, pulseCount}
+use Rattle.tape.specs.Records.{byte, writable, dmaPort, decodeOf, pulseCount}
 use Rattle.tape.specs.Answers.{twelve, answerOf}
 use Rattle.timer.specs.Timer.{writesOf, readsOf}
 use Rattle.dma.specs.declared.Dma.{Dma}
@@ -21,7 +21,7 @@ use Rattle.dma.specs.declared.Got.{Got}
 use Rattle.dma.specs.Fields.{chan, served}
 use Rattle.dma.specs.Registers as DmaRegisters
 use Rattle.dma.specs.Report.{Told}
-use Rattle.dma.specs.Cycle.{writes, pokeOf, byteOf, single, ready, channelAt, winnerFrom, winner, lastOf, releases, nothingOf, grantedOf, releasedOf, unitOf, cycleBy}
+use Rattle.dma.specs.Cycle.{writes, pokeOf, single, ready, channelAt, winnerFrom, winner, lastOf, releases, nothingOf, grantedOf, releasedOf, unitOf, cycleBy}
 use Rattle.dma.specs.Cycle as DmaCycle
 use Rattle.board.specs.declared.Board.{Board}
 use Rattle.board.specs.declared.Outcome.{Outcome}
@@ -30,8 +30,8 @@ use Rattle.board.specs.Operations.{refused, icuTold, icuWritten, a0, payloadOf,
 use Rattle.board.specs.Advance.{advanceOf}
 use Rattle.board.specs.Step.{executeOf, memoryAfter, blocked, outcomeOf, memoryOf, answeredOf, stepOf, stepMemory}
 use Rattle.promises.specs.Decodes.{either, Decodes, malformed, reset, write, read, intp, gates, requests, acknowledge, advance, cycle, decodes}
-use Rattle.promises.specs.Words.{reportsUnit, disturbs}
-use Rattle.promises.specs.Sound.{Good, Sound, cycle-sound, requests-sound, read-sound, write-sound, reset-sound}
+use Rattle.promises.specs.Words.{disturbs}
+use Rattle.promises.specs.Sound.{Sound, cycle-sound, requests-sound, read-sound, write-sound, reset-sound}
 use Rattle.promises.specs.Seen.{Seen, still, unit, same, Serves, starts}
 
 -- A bus cycle and its answer.

@@ -1,14 +1,15 @@
 -- What the class must not be taught, each ruled out on the tape.
 --
 -- `writing p x` is a record that writes x to port p, `reading p` one that reads it, and `pulsing` advances by one pulse (Plain.antt).
-use mathlib.Core.Path.{_≡_, refl, sym, ap, _∙_}
+use mathlib.Core.Path.{_≡_, sym, ap, _∙_}
+use mathlib.Core.Logic.{_≢_}
 use mathlib.Core.List.{List}
-use mathlib.Core.Bool.{Bool, true, false, not}
-use Prim.Native.Nat.{ℕ, zero, suc, _+_, _-_, _/_, _%_, _≤_, _<_}
+use mathlib.Core.Bool.{true, false, not}
+use Prim.Native.Nat.{ℕ, suc, _+_, _-_, _/_, _%_, _≤_, _<_}
 use native.Mathlib.Omega.{arith}
 use lib.Dec.{eqb}
 use lib.ListN.{getD, length}
-use borrow.Author.Tests.{eqb-true, ne-eqb}
+use borrow.Author.Tests.{ne-eqb}
 use Rattle.bits.specs.Choice.{_and_}
 use Rattle.bits.specs.Bits.{bitOf, withoutOf}
 use Rattle.icu.specs.declared.Icu.{Icu}
@@ -28,7 +29,8 @@ use Rattle.intake.specs.Feed.{after}
 use Rattle.promises.specs.Words.{answersIn, unitsOf, Reached}
 use Rattle.promises.specs.Runs.{reached-sound}
 use Rattle.promises.specs.BoardKept.{reached-held}
-use Rattle.promises.specs.Finish.{Highest, cleared}
+use Rattle.promises.specs.Finish.{Highest, highest-of, cleared}
+use Rattle.promises.specs.IcuKept.{bit-of}
 use Rattle.promises.specs.Counters.{writingOf, readingOf, valueOf, writes-value, writes-reading, reads-writing, reads-value}
 use Rattle.promises.specs.Plain.{writing, reading, pulsing, write-leaves, read-leaves, pulsed, mask-written, irr-read, finish-written, finished-is, finished-none, transferred, pulse-at}
 use Rattle.promises.specs.Block.{plainCycle, Goes, going, moved, stopped}
@@ -47,6 +49,13 @@ finish-clears-one {b} r m free set x l h n top =
       e,
       λ k q. ap (λ (d : Board). bitOf (d .icu .isr) k) e ∙ cleared (b .icu .isr) n k (reached-held r .icu .isr) (top .level) q,
     )
+
+-- There is such a level wherever ISR is not zero.
+-- Not so: a board whose ISR shows a bit that no rank has; one that has two levels of the same rank.
+pub one-is-highest : {b : Board} → Reached b → b .icu .isr ≢ 0 → (n : ℕ) × Highest (b .icu) n
+one-is-highest {b} r ne =
+    let q = bit-of (b .icu .isr) (reached-held r .icu .isr) ne in
+    highest-of (b .icu) (q .0) (q .1) (q .2)
 
 -- With no level in service it changes nothing at all.
 -- Not so: a board that makes a level lowest all the same; one that refuses the command.

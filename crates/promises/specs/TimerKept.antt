@@ -1,14 +1,14 @@
 -- The timer stays in its ranges.
-use mathlib.Core.Path.{_≡_, refl, sym, ap, _∙_, subst}
-use mathlib.Core.List.{List, [], _∷_}
+use mathlib.Core.Path.{_≡_, refl}
+use mathlib.Core.List.{List}
 use mathlib.Core.Bool.{Bool, true, false}
-use Prim.Native.Nat.{ℕ, zero, suc, _+_, _*_, _/_, _≤_, _<_, _%_}
+use Prim.Native.Nat.{ℕ, zero, suc, _+_, _*_, _%_}
 use native.Mathlib.Omega.{arith}
 use lib.Dec.{eqb, ltb}
 use lib.ListN.{getD, set, length}
 use lib.Seq.{getD-set-same, getD-set-other, set-out}
 use borrow.Author.Tests.{eqb-true, eqb-false, ltb-true, ltb-false, lt-ltb}
-use Rattle.bits.specs.Choice.{if_then_else_, _and_, _or_}
+use Rattle.bits.specs.Choice.{_and_}
 use Rattle.bits.specs.Bits.{bitOf, less}
 use Rattle.timer.specs.declared.Counter.{Counter}
 use Rattle.timer.specs.declared.Timer.{Timer}

@@ -2,7 +2,7 @@
 -- the chip, and which boards are reached.
 use mathlib.Core.Path.{_≡_}
 use mathlib.Core.List.{List, [], _∷_, _++_}
-use mathlib.Core.Bool.{Bool, true, false}
+use mathlib.Core.Bool.{Bool, false}
 use Prim.Native.Nat.{ℕ, zero, suc, _+_, _*_, _-_, _%_, _<_}
 use lib.Dec.{eqb, ltb, leb}
 use lib.ListN.{getD, take, drop, length}
