@@ -2,22 +2,22 @@
 -- accepted write to the DMA chip.
 --
 -- Words.antt has the words: answersIn, unitsOf, lastAt (what answers report, by their bytes), placeOf, mayWrite (places and ranges),
--- Calm (no reset, no accepted write to the chip) and Reached.
+-- Calm (no reset, no accepted write to the chip), Reached and Further.
 use mathlib.Core.Path.{_≡_}
 use mathlib.Core.List.{List}
 use mathlib.Core.Bool.{true, false}
-use Prim.Native.Nat.{ℕ, _+_, _*_, _≤_, _<_}
-use native.Mathlib.Omega.{arith}
-use lib.ListN.{getD, length, drop}
+use Prim.Native.Nat.{ℕ, _+_, _≤_, _<_}
+use lib.ListN.{getD, length}
 use Rattle.dma.specs.declared.Dma.{Dma}
 use Rattle.dma.specs.Fields.{chan}
 use Rattle.dma.specs.Cycle.{down, auto, writes}
 use Rattle.board.specs.declared.Board.{Board}
 use Rattle.intake.specs.Ranges.{inRange}
-use Rattle.intake.specs.Feed.{after, bytesOf, countOf, taken, fedMemory, fedAnswers}
-use Rattle.promises.specs.Words.{answersIn, unitsOf, lastAt, placeOf, mayWrite, Calm, Reached, Typed}
+use Rattle.intake.specs.Feed.{after}
+use Rattle.promises.specs.Words.{answersIn, unitsOf, lastAt, placeOf, mayWrite, Calm, Reached, Further, Typed}
 use Rattle.promises.specs.Sound.{Sound}
-use Rattle.promises.specs.Runs.{in-before, answered, traced, sound-of, reached-sound}
+use Rattle.promises.specs.Seen.{Trace}
+use Rattle.promises.specs.Runs.{traced, calls-traced, sound-of, reached-sound}
 use Rattle.promises.specs.Moves as the-moves
 use Rattle.promises.specs.Ranges as the-ranges
 use Rattle.promises.specs.Bytes as the-bytes
@@ -46,10 +46,8 @@ pub record Bounded (d : Dma) (m : List ℕ) (answers : List (List ℕ)) (m′ : 
   -- The memory is as long as before.
   pub long : length m′ ≡ length m
 
-bounded : (b : Board) (m s : List ℕ) (n : ℕ) → Sound (b .dma) → Calm b m s n
-    → Bounded (b .dma) m (answersIn (after b m s n .answers) n) (after b m s n .memory)
-bounded b m s n g c =
-    let t = traced b m s n g c in
+bounded : {d : Dma} {m : List ℕ} {answers : List (List ℕ)} {e : Dma} {m′ : List ℕ} → Sound d → Trace d m answers e m′ → Bounded d m answers m′
+bounded g t =
     record {
       few = λ k h. the-moves.moves t k g h .0;
       places = λ k h. the-moves.moves t k g h .1;
@@ -61,22 +59,16 @@ bounded b m s n g c =
 -- It holds of any board reached, any bytes s, and any number n of records of them.
 pub demand-3 : {b : Board} → Reached b → (m s : List ℕ) (n : ℕ) → Calm b m s n
     → Bounded (b .dma) m (answersIn (after b m s n .answers) n) (after b m s n .memory)
-demand-3 {b} r m s n c = bounded b m s n (reached-sound r) c
+demand-3 {b} r m s n c = bounded (reached-sound r) (traced b m s n (reached-sound r) c)
 
 -- It holds of a board that no tape reaches, too, if only each field is in its range.
 pub in-range : (b : Board) → inRange b ≡ true → Typed b → (m s : List ℕ) (n : ℕ) → Calm b m s n
     → Bounded (b .dma) m (answersIn (after b m s n .answers) n) (after b m s n .memory)
-in-range b h t m s n c = bounded b m s n (sound-of b t h) c
+in-range b h t m s n c = bounded (sound-of b t h) (traced b m s n (sound-of b t h) c)
 
--- So for a call that is taken: the lent memory afterwards, and the answers in the lent buffer. The bytes executed are those kept
--- from the last call, and then the tape.
-pub of-a-call : {b : Board} → Reached b → (tape m answers : List ℕ)
-    → taken b tape (length answers) ≡ true
-    → Calm b m (bytesOf b tape) (countOf b tape)
-    → Bounded (b .dma) m (answersIn (fedAnswers b tape m answers) (countOf b tape)) (fedMemory b tape m (length answers))
-unfolding fedAnswers fedMemory
-of-a-call {b} r tape m answers h c =
-    let n = countOf b tape in
-    let run = after b m (bytesOf b tape) n in
-    rw (h, in-before (run .answers) (drop (16 * n) answers) n (omega (arith, answered b m (bytesOf b tape) n)))
-    (demand-3 r m (bytesOf b tape) n c)
+-- And so for any number of calls, in which the tape may be cut anywhere: the lent memory after the last of them, and the answers in their
+-- buffers, one buffer after another. The bytes that a call executes are those kept from the call before, and then its tape.
+pub of-calls : {b : Board} → Reached b → {m : List ℕ} {answers : List (List ℕ)} {m′ : List ℕ}
+    → Further b m answers m′
+    → Bounded (b .dma) m answers m′
+of-calls r f = bounded (reached-sound r) (calls-traced f (reached-sound r) .1)

@@ -10,19 +10,20 @@ use lib.Seq.{drop-append-le, take-append-le, drop-at, take-all}
 use borrow.Author.Tests.{ltb-true}
 use Rattle.bits.specs.Choice.{_and_}
 use Rattle.dma.specs.declared.Channel.{Channel}
-use Rattle.dma.specs.Fields.{none, chan}
+use Rattle.dma.specs.declared.Dma.{Dma}
+use Rattle.dma.specs.Fields.{none as blank, chan}
 use Rattle.board.specs.declared.Board.{Board}
 use Rattle.board.specs.Wiring.{freshOf}
 use Rattle.board.specs.Step.{stepOf, stepMemory}
 use Rattle.intake.specs.declared.Fed.{Fed}
 use Rattle.intake.specs.Records.{recordAt}
 use Rattle.intake.specs.Ranges.{icuGood, timerGood, channelGood, channelsGood, dmaGood, inRange}
-use Rattle.intake.specs.Feed.{Run, after, bytesOf, countOf, taken, fedOf}
+use Rattle.intake.specs.Feed.{Run, after, bytesOf, countOf, taken, fedOf, fedMemory, fedAnswers}
 use Rattle.promises.specs.Decodes.{either}
 use Rattle.promises.specs.Logic.{both-left, both-right}
-use Rattle.promises.specs.Words.{answerAt, answersIn, Calm, Reached, unfed, fed, Typed}
+use Rattle.promises.specs.Words.{answerAt, answersIn, Calm, Reached, unfed, fed, Further, none, call, Typed}
 use Rattle.promises.specs.Sound.{Good, Sound, none-good, reset-sound}
-use Rattle.promises.specs.Seen.{Trace, stop, snoc}
+use Rattle.promises.specs.Seen.{Trace, stop, snoc, join}
 use Rattle.promises.specs.Steps.{seen-step, step-sound, answer-length}
 
 -- The answers before the last, and the last.
@@ -132,7 +133,7 @@ module _ (b : Board) (t : Typed b) where
       all g (suc (suc (suc zero))) =
           good-by 3 (both-right (channelGood (at 2)) (channelGood (at 3)) (both-right (channelGood (at 1)) g3 (both-right (channelGood (at 0)) g2 g)))
       all g (suc (suc (suc (suc n)))) =
-          subst Good (sym (List·getD-eq-default (b .dma .channels) none (rw (t .four) (omega arith)))) none-good
+          subst Good (sym (List·getD-eq-default (b .dma .channels) blank (rw (t .four) (omega arith)))) none-good
 
 -- Every board reached has a sound chip.
 pub reached-sound : {b : Board} → Reached b → Sound (b .dma)
@@ -142,3 +143,25 @@ reached-sound (fed {b = b} t m room g) =
     either (λ (f : Fed). Sound (f .board .dma)) (taken b t room)
     (λ _. sound b m (bytesOf b t) (countOf b t) (reached-sound g))
     (λ _. reached-sound g)
+
+-- A call that is taken, and any number of them.
+module _ (b : Board) (tape m buffer : List ℕ) (h : taken b tape (length buffer) ≡ true) where
+  pub call-sound : Sound (b .dma) → Sound (fedOf b tape m (length buffer) .board .dma)
+  unfolding fedOf
+  call-sound g = rw h (sound b m (bytesOf b tape) (countOf b tape) g)
+
+  pub call-traced : Sound (b .dma) → Calm b m (bytesOf b tape) (countOf b tape)
+      → Trace (b .dma) m (answersIn (fedAnswers b tape m buffer) (countOf b tape)) (fedOf b tape m (length buffer) .board .dma) (fedMemory b tape m (length buffer))
+  unfolding fedOf fedMemory fedAnswers
+  call-traced g c =
+      let n = countOf b tape in
+      let run = after b m (bytesOf b tape) n in
+      rw (h, in-before (run .answers) (drop (16 * n) buffer) n (omega (arith, answered b m (bytesOf b tape) n)))
+      (traced b m (bytesOf b tape) n g c)
+
+pub calls-traced : {b : Board} {m : List ℕ} {got : List (List ℕ)} {m′ : List ℕ} → Further b m got m′ → Sound (b .dma)
+    → (d : Dma) × Trace (b .dma) m got d m′
+calls-traced (none {b = b}) g = (b .dma, stop)
+calls-traced (call {b = b} {m = m} tape buffer h c more) g =
+    let t = calls-traced more (call-sound b tape m buffer h g) in
+    (t .0, join (call-traced b tape m buffer h g c) (t .1))

@@ -62,3 +62,11 @@ pub snoc : {d : Dma} {m : List ℕ} {rest : List (List ℕ)} {e : Dma} {l : List
     → Trace d m (rest ++ a ∷ []) e′ l′
 snoc stop s see = step s see stop
 snoc (step s′ see′ t) s see = step s′ see′ (snoc t s see)
+
+-- One run after another.
+pub join : {d : Dma} {m : List ℕ} {got : List (List ℕ)} {e : Dma} {l : List ℕ} {more : List (List ℕ)} {e′ : Dma} {l′ : List ℕ}
+    → Trace d m got e l
+    → Trace e l more e′ l′
+    → Trace d m (got ++ more) e′ l′
+join stop u = u
+join (step s see t) u = step s see (join t u)

@@ -2,7 +2,7 @@
 -- the chip, and which boards are reached.
 use mathlib.Core.Path.{_≡_}
 use mathlib.Core.List.{List, [], _∷_, _++_}
-use mathlib.Core.Bool.{Bool, false}
+use mathlib.Core.Bool.{Bool, true, false}
 use Prim.Native.Nat.{ℕ, zero, suc, _+_, _*_, _-_, _%_, _<_}
 use lib.Dec.{eqb, ltb, leb}
 use lib.ListN.{getD, take, drop, length}
@@ -16,7 +16,7 @@ use Rattle.board.specs.declared.Board.{Board}
 use Rattle.board.specs.Wiring.{freshOf}
 use Rattle.board.specs.Step.{stepOf}
 use Rattle.intake.specs.Records.{recordAt}
-use Rattle.intake.specs.Feed.{after, fedOf}
+use Rattle.intake.specs.Feed.{after, bytesOf, countOf, taken, fedOf, fedMemory, fedAnswers}
 
 -- Answer i of the bytes of many answers, and the first n answers.
 unfoldable pub answerAt : List ℕ → ℕ → List ℕ
@@ -96,3 +96,13 @@ pub record Typed (b : Board) : Type 0 where
   pub four : length (b .dma .channels) ≡ 4
   pub current : (n : ℕ) → chan (b .dma) n .current .count < 65536
   pub base : (n : ℕ) → chan (b .dma) n .base .count < 65536
+
+-- Further calls on the same memory: from a board and a memory, with the answers of all of them, to a memory. Each is taken, and no record
+-- of it disturbs the chip.
+pub data Further : Board → List ℕ → List (List ℕ) → List ℕ → Type 0 where
+  none : {b : Board} {m : List ℕ} → Further b m [] m
+  call : {b : Board} {m : List ℕ} {more : List (List ℕ)} {m′ : List ℕ} (tape buffer : List ℕ)
+      → taken b tape (length buffer) ≡ true
+      → Calm b m (bytesOf b tape) (countOf b tape)
+      → Further (fedOf b tape m (length buffer) .board) (fedMemory b tape m (length buffer)) more m′
+      → Further b m (answersIn (fedAnswers b tape m buffer) (countOf b tape) ++ more) m′
