@@ -2,18 +2,21 @@
 use mathlib.Core.Path.{_≡_, refl, ap}
 use mathlib.Core.List.{List}
 use mathlib.Core.Bool.{Bool, true, false}
-use Prim.Native.Nat.{ℕ, _+_, _*_, _%_}
+use Prim.Native.Nat.{ℕ, zero, suc, _+_, _*_, _%_, _<_}
+use native.Mathlib.Omega.{arith}
 use lib.Dec.{eqb, ltb}
 use lib.ListN.{getD, set, length}
 use lib.Seq.{getD-set-same, getD-set-other, set-out}
 use borrow.Author.Tests.{eqb-true, eqb-false, ltb-true, ltb-false}
+use Rattle.bits.specs.Bits.{bitOf}
 use Rattle.bits.specs.Choice.{_and_}
 use Rattle.timer.specs.declared.Counter.{Counter}
 use Rattle.timer.specs.declared.Timer.{Timer}
 use Rattle.timer.specs.declared.Written.{Written}
 use Rattle.timer.specs.declared.Got.{Got}
 use Rattle.timer.specs.Ports.{Answer, SC, RWM, CM, BCD, moded, modeSet, modeWord, latchWord, controlOf, completed, countOf, begun, writeOf, readOf}
-use Rattle.timer.specs.Timer.{blank, at, wroteBy, gotBy, controlsOf, writesOf, readsOf}
+use Rattle.timer.specs.Pulse.{gateOf}
+use Rattle.timer.specs.Timer.{blank, at, wroteBy, gotBy, controlsOf, writesOf, readsOf, three, gatesOf}
 use Rattle.promises.specs.Decodes.{either}
 
 -- Where a writing stands: the first byte of two, kept apart, and the last complete count with what it waits for.
@@ -112,6 +115,17 @@ module _ (c : Counter) where
       (λ _. either R (c .second) (λ _. (refl, refl)) (λ _. (refl, refl)))))
       (λ _. (refl, refl))
 
+  -- A gate leaves the value.
+  gate-value : (k : Bool) → valueOf (gateOf c k) ≡ valueOf c
+  unfolding gateOf valueOf
+  gate-value k =
+      either (λ (d : Counter). valueOf d ≡ valueOf c) k
+      (λ _. either (λ (d : Counter). valueOf d ≡ valueOf c) (c .gate) (λ _. refl)
+      (λ _. either (λ (d : Counter). valueOf d ≡ valueOf c) (eqb (c .mode) 2 and c .full) (λ _. refl) (λ _. refl)))
+      (λ _. either (λ (d : Counter). valueOf d ≡ valueOf c) (c .gate)
+      (λ _. either (λ (d : Counter). valueOf d ≡ valueOf c) (eqb (c .mode) 2) (λ _. refl) (λ _. refl))
+      (λ _. refl))
+
 -- All three.
 module _ (t : Timer) (n : ℕ) where
   pub writes-value : (a x : ℕ) → valueOf (at (writesOf t a x .timer) n) ≡ valueOf (at t n)
@@ -138,3 +152,13 @@ module _ (t : Timer) (n : ℕ) where
   reads-value a =
       either (λ (w : Got). valueOf (at (w .timer) n) ≡ valueOf (at t n)) (eqb (a % 4) 3) (λ _. refl)
       (λ _. put-same valueOf (t .counters) (a % 4) (readOf (at t (a % 4)) .counter) (read-same (at t (a % 4)) .1) n)
+
+  pub gates-value : n < 3 → (l : ℕ) → valueOf (at (gatesOf t l) n) ≡ valueOf (at t n)
+  unfolding gatesOf
+  gates-value h l = go n h
+    where
+      go : (i : ℕ) → i < 3 → valueOf (at (three (gateOf (at t 0) (bitOf l 0)) (gateOf (at t 1) (bitOf l 1)) (gateOf (at t 2) (bitOf l 2))) i) ≡ valueOf (at t i)
+      go zero h = gate-value (at t 0) (bitOf l 0)
+      go (suc zero) h = gate-value (at t 1) (bitOf l 1)
+      go (suc (suc zero)) h = gate-value (at t 2) (bitOf l 2)
+      go (suc (suc (suc i))) h = absurd (omega arith)

@@ -41,7 +41,8 @@ pub record Bounded (d : Dma) (m : List ℕ) (answers : List (List ℕ)) (m′ : 
   pub others : (p : ℕ) → ((k : ℕ) → k < 4 → mayWrite p (chan d k) ≡ false) → getD m′ p 0 ≡ getD m p 0
   -- Any byte ends as the data of the last answer that reports a unit there by a channel set to write memory, or as it was if
   -- none does.
-  -- Not so: a board that moves a unit and answers "nothing"; one that invents units, or reports other data than it writes.
+  -- Not so: a board that moves a unit and answers "nothing"; one that reports a unit that it does not
+  -- write, or other data than it writes.
   pub ends : (p : ℕ) → p < length m → getD m′ p 0 ≡ lastAt (λ k. writes (chan d k)) p answers (getD m p 0)
   -- The memory is as long as before.
   pub long : length m′ ≡ length m

@@ -1,19 +1,20 @@
 -- Records of a write, a read and one pulse, as they are carried out.
 use mathlib.Core.Path.{_≡_, refl, sym, ap, _∙_}
+use mathlib.Core.Logic.{_≢_}
 use mathlib.Core.List.{List, [], _∷_}
 use mathlib.Core.Bool.{Bool, true, false, true≢false}
 use Prim.Native.Nat.{ℕ, zero, suc, _/_, _%_, _≤_, _<_}
 use native.Mathlib.Omega.{arith}
 use lib.Dec.{eqb}
 use lib.ListN.{getD}
-use borrow.Author.Tests.{eq-eqb, ne-eqb}
+use borrow.Author.Tests.{eq-eqb, ne-eqb, eqb-true}
 use Rattle.bits.specs.Choice.{if_then_else_, _and_, _or_, every}
 use Rattle.bits.specs.Bits.{bitOf, withoutOf}
 use Rattle.bits.proofs.Every.{alike}
-use Rattle.tape.specs.declared.Operation.the-variants.{Write, Read}
+use Rattle.tape.specs.declared.Operation.the-variants.{Write, Read, Intp, Gates, Requests, Acknowledge, Cycle}
 use Rattle.tape.specs.declared.Decoded.{Decoded}
 use Rattle.tape.specs.declared.Decoded.the-variants.{Asked, Malformed}
-use Rattle.tape.specs.Records.{unused, writable, readable, pulseCount, laterAsked, decodeOf}
+use Rattle.tape.specs.Records.{byte, unused, writable, readable, pulseCount, laterAsked, decodeOf}
 use Rattle.tape.specs.Answers.{answerOf}
 use Rattle.icu.specs.declared.Icu.{Icu}
 use Rattle.icu.specs.Fields.{imr-is, isr-is}
@@ -31,10 +32,11 @@ use Rattle.dma.specs.Registers as DmaRegisters
 use Rattle.board.specs.declared.Board.{Board}
 use Rattle.board.specs.declared.Outcome.{Outcome}
 use Rattle.board.specs.Wiring.{icu-is, lines, rewired}
-use Rattle.board.specs.Operations.{refused, timerWritten, timerShown, dmaWritten, dmaShown, writeOf, readOf}
+use Rattle.board.specs.Operations.{refused, timerWritten, timerShown, dmaWritten, dmaShown, writeOf, readOf, cycleOf}
 use Rattle.board.specs.Advance.{tickOf, advancedOf, advanceOf}
 use Rattle.board.specs.Step.{executeOf, blocked, outcomeOf, answeredOf, stepOf}
-use Rattle.promises.specs.Decodes.{either}
+use Rattle.promises.specs.Decodes.{either, Decodes, malformed, reset, write, read, intp, gates, requests, acknowledge, advance, cycle, decodes}
+use Rattle.promises.specs.Counters.{valueOf, writes-value, reads-value, gates-value}
 use Rattle.promises.specs.Finish.{Highest, highest-is}
 
 -- The bits of a finish command without a level: 001 in D7-D5, D4 and D3 clear.
@@ -87,6 +89,38 @@ module _ (b : Board) (m : List ℕ) where
         (λ _. either Same (eqb (p / 16) 1)
         (λ _. either Same (eqb (readsOf (b .timer) p .status) 0) (λ _. h) (λ _. refl))
         (λ _. either Same (eqb (DmaRegisters.readOf (b .dma) p .status) 0) (λ _. refl) (λ _. refl)))))
+
+  -- Only a reset and an advance change a counter's value.
+  module _ (n : ℕ) (low : n < 3) (r : List ℕ) (no-reset : byte r 0 ≢ 0) (no-pulse : byte r 0 ≢ 5) where
+    abbrev Still : Outcome → Type 0
+    Still o = valueOf (at (o .board .timer) n) ≡ valueOf (at (b .timer) n)
+
+    by : (x : Decoded) → Decodes r x → Still (outcomeOf b x m)
+    unfolding outcomeOf executeOf writeOf timerWritten dmaWritten readOf timerShown dmaShown rewired cycleOf
+    by x malformed = refl
+    by x (reset o) = absurd (no-reset (eqb-true (byte r 0) 0 o))
+    by x (write o p) =
+        either Still (blocked b (Write (byte r 1) (byte r 2))) (λ _. refl)
+        (λ _. either Still (eqb (byte r 1 / 16) 0) (λ _. refl)
+        (λ _. either Still (eqb (byte r 1 / 16) 1)
+        (λ _. either Still (eqb (writesOf (b .timer) (byte r 1) (byte r 2) .status) 0) (λ _. writes-value (b .timer) n (byte r 1) (byte r 2)) (λ _. refl))
+        (λ _. either Still (eqb (DmaRegisters.writeOf (b .dma) (byte r 1) (byte r 2) .status) 0) (λ _. refl) (λ _. refl))))
+    by x (read o p) =
+        either Still (blocked b (Read (byte r 1))) (λ _. refl)
+        (λ _. either Still (eqb (byte r 1 / 16) 0) (λ _. refl)
+        (λ _. either Still (eqb (byte r 1 / 16) 1)
+        (λ _. either Still (eqb (readsOf (b .timer) (byte r 1) .status) 0) (λ _. reads-value (b .timer) n (byte r 1)) (λ _. refl))
+        (λ _. either Still (eqb (DmaRegisters.readOf (b .dma) (byte r 1) .status) 0) (λ _. refl) (λ _. refl))))
+    by x (intp o l) = either Still (blocked b (Intp (byte r 2))) (λ _. refl) (λ _. refl)
+    by x (gates o l) = either Still (blocked b (Gates (byte r 2))) (λ _. refl) (λ _. gates-value (b .timer) n low (byte r 2))
+    by x (requests o l) = either Still (blocked b (Requests (byte r 2))) (λ _. refl) (λ _. refl)
+    by x (acknowledge o) = either Still (blocked b Acknowledge) (λ _. refl) (λ _. refl)
+    by x (advance o l) = absurd (no-pulse (eqb-true (byte r 0) 5 o))
+    by x (cycle o) = either Still (blocked b (Cycle (eqb (byte r 1) 1) (byte r 2))) (λ _. refl) (λ _. refl)
+
+    pub value-stays : valueOf (at (stepOf b r m .board .timer) n) ≡ valueOf (at (b .timer) n)
+    unfolding stepOf answeredOf
+    value-stays = by (decodeOf r) (decodes r)
 
   -- One pulse reaches each counter.
   pub pulsed : stepOf b pulsing m .board .timer ≡ Timers.pulsesOf (b .timer)

@@ -26,7 +26,7 @@ reached-in-range {b} r =
     )
 
 -- It has four channels, too, and each count is of sixteen bits.
--- Not so: a board that loses a channel when it writes it back; one whose count falls from 0 to something else than FFFFH or below.
+-- Not so: a board that loses a channel when it writes it back; one whose count goes past FFFFH.
 pub reached-typed : {b : Board} → Reached b → Typed b
 reached-typed r =
     let s = reached-sound r in

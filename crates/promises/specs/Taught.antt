@@ -12,6 +12,7 @@ use lib.ListN.{getD, length}
 use borrow.Author.Tests.{ne-eqb}
 use Rattle.bits.specs.Choice.{_and_}
 use Rattle.bits.specs.Bits.{bitOf, withoutOf}
+use Rattle.tape.specs.Records.{byte}
 use Rattle.icu.specs.declared.Icu.{Icu}
 use Rattle.icu.specs.Fields.{isr-is, imr-is}
 use Rattle.icu.specs.Words.{ready}
@@ -32,7 +33,7 @@ use Rattle.promises.specs.BoardKept.{reached-held}
 use Rattle.promises.specs.Finish.{Highest, highest-of, cleared}
 use Rattle.promises.specs.IcuKept.{bit-of}
 use Rattle.promises.specs.Counters.{writingOf, readingOf, valueOf, writes-value, writes-reading, reads-writing, reads-value}
-use Rattle.promises.specs.Plain.{writing, reading, pulsing, write-leaves, read-leaves, pulsed, mask-written, irr-read, finish-written, finished-is, finished-none, transferred, pulse-at}
+use Rattle.promises.specs.Plain.{writing, reading, pulsing, write-leaves, read-leaves, pulsed, mask-written, irr-read, finish-written, finished-is, finished-none, transferred, pulse-at, value-stays}
 use Rattle.promises.specs.Block.{plainCycle, Goes, going, moved, stopped}
 
 -- "Finish clears all of ISR." A finish command without a level (001 in D7-D5; D2-D0 do not matter) clears the bit of the
@@ -85,6 +86,13 @@ masking-hides-nothing b m free set irr x = (
 pub write-loads-nothing : (b : Board) (m : List ℕ) (p x n : ℕ) → at (stepOf b (writing p x) m .board .timer) n .value ≡ at (b .timer) n .value
 unfolding valueOf
 write-loads-nothing b m p x n = write-leaves b m (λ (t : Timer). valueOf (at t n)) p x (λ _. writes-value (b .timer) n p x)
+
+-- Nor does any other record, but a reset (operation 0) and an advance (operation 5): until a pulse every counter has the value it had.
+-- Not so: a board that loads when GATE rises; one that loads when the counter is read.
+pub only-pulses-load : (b : Board) (m r : List ℕ) (n : ℕ) → n < 3 → byte r 0 ≢ 0 → byte r 0 ≢ 5
+    → at (stepOf b r m .board .timer) n .value ≡ at (b .timer) n .value
+unfolding valueOf
+only-pulses-load b m r n h z p = value-stays b m n h r z p
 
 -- It is the next pulse that transfers a complete count that waits.
 -- Not so: a board that counts one down at that pulse; one that waits for GATE.

@@ -85,8 +85,8 @@ Calm b m s n =
     → i < n
     → disturbs (recordAt s i) (stepOf (after b m s i .board) (recordAt s i) (after b m s i .memory) .answer) ≡ false
 
--- A board is reached if some calls lead to it from a board that was never fed, each with some tape, memory and buffer. A call ends
--- at the end of a record, and may keep the bytes of a cut one.
+-- A board is reached if some calls lead to it from a board that was never fed, each with some tape, memory and buffer: any
+-- lists of numbers, those of bytes among them. A call ends at the end of a record, and may keep the bytes of a cut one.
 pub data Reached : Board → Type 0 where
   unfed : Reached freshOf
   fed : {b : Board} (tape memory : List ℕ) (room : ℕ) → Reached b → Reached (fedOf b tape memory room .board)
