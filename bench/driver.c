@@ -1,5 +1,5 @@
 /* driver compare SEED TAPES   feeds random tapes in random lumps to both boards and compares every answer and the memory
- * driver time REPEATS         times both boards on the same tapes, by turns, and prints the ratios
+ * driver time REPEATS [WORD]  times both boards on the same tapes, by turns, and prints the ratios; with WORD the lines that have it
  *
  * Both boards are called the same way: a whole tape, or a lump of it, through one function each. Every timed run's answers are compared too. Times
  * are of the processor's time of this process, so that other work on the machine counts as little as it can. */
@@ -8,6 +8,7 @@
 
 int printf(const char *, ...);
 int strcmp(const char *, const char *);
+char *strstr(const char *, const char *);
 int memcmp(const void *, const void *, unsigned long);
 void *memcpy(void *, const void *, unsigned long);
 void *memset(void *, int, unsigned long);
@@ -224,9 +225,13 @@ static void sort(double *x, int n)
         }
 }
 
+static const char *only = "";
+
 static void measure(const char *what, int repeats, double items, length lump, unsigned times)
 {
     static double ratio[1000], spent[2][1000];
+    if (!strstr(what, only))
+        return;
     for (int i = -1; i < repeats; i++) { /* the first is not counted */
         double t[2];
         memcpy(memory[0], start_memory, MEMORY), memcpy(memory[1], start_memory, MEMORY);
@@ -326,9 +331,9 @@ int main(int words, char **word)
         start_memory[i] = (byte)below(256);
     if (words == 4 && !strcmp(word[1], "compare"))
         compare_random(strtoul(word[2], 0, 10), strtoul(word[3], 0, 10));
-    else if (words == 3 && !strcmp(word[1], "time"))
-        time_all((int)strtoul(word[2], 0, 10));
+    else if ((words == 3 || words == 4) && !strcmp(word[1], "time"))
+        only = words == 4 ? word[3] : "", time_all((int)strtoul(word[2], 0, 10));
     else
-        printf("usage: driver compare SEED TAPES; driver time REPEATS\n"), exit(2);
+        printf("usage: driver compare SEED TAPES; driver time REPEATS [WORD]\n"), exit(2);
     return 0;
 }

@@ -15,7 +15,7 @@ def advance(n):
 def likely(r):
     """A record that mostly is taken, or refused for what the board is at."""
     ports = [0x00, 0x01, 0x10, 0x11, 0x12] + list(range(0x20, 0x30))
-    k = r.randrange(20)
+    k = r.randrange(24)
     if k == 0:
         return record(1, 0x00, r.randrange(256) | 0x12)
     if k == 1:
@@ -48,7 +48,7 @@ def likely(r):
         return record(4)
     if k == 17:
         return advance(r.choice([0, 1, 2, 3, r.randrange(300)]))
-    return record(6, r.randrange(8) == 0, r.randrange(256))
+    return record(6, r.randrange(2), r.randrange(256))
 
 
 def mixed(seed, n, wild):
