@@ -199,18 +199,20 @@ static double now(void)
     return (double)m.seconds * 1e9 + (double)m.nanoseconds;
 }
 
-/* The tape is run `times` over, each on a fresh board, in lumps of `lump` bytes. */
-static double run(int who, length lump, unsigned times)
+/* The tape is run in pieces, each on a fresh board, and a piece in lumps (both in bytes). */
+static double run(int who, length piece, length lump)
 {
+    length done = 0, taken, at = 0;
     double begin = now();
-    for (unsigned i = 0; i < times; i++) {
-        length done = 0, taken;
+    while (at < size) {
+        length end = piece < size - at ? at + piece : size;
         fresh();
-        for (length at = 0; at < size; at += lump) {
-            length n = lump < size - at ? lump : size - at;
+        while (at < end) {
+            length n = lump < end - at ? lump : end - at;
             if (feed[who](tape + at, n, memory[who], MEMORY, answers[who] + 16 * done, 16 * (MOST - done), &taken))
                 printf("bench: status 7 of a whole call\n"), exit(1);
             done += taken;
+            at += n;
         }
     }
     return now() - begin;
@@ -227,7 +229,7 @@ static void sort(double *x, int n)
 
 static const char *only = "";
 
-static void measure(const char *what, int repeats, double items, length lump, unsigned times)
+static void measure(const char *what, int repeats, double items, length piece, length lump)
 {
     static double ratio[1000], spent[2][1000];
     if (!strstr(what, only))
@@ -237,13 +239,13 @@ static void measure(const char *what, int repeats, double items, length lump, un
         memcpy(memory[0], start_memory, MEMORY), memcpy(memory[1], start_memory, MEMORY);
         for (int turn = 0; turn < 2; turn++) {
             int who = (i & 1) ^ turn;
-            t[who] = run(who, lump, times);
+            t[who] = run(who, piece, lump);
         }
         compare(what, size / 8, MEMORY);
         if (i < 0)
             continue;
         ratio[i] = t[0] / t[1];
-        spent[0][i] = t[0] / items / times, spent[1][i] = t[1] / items / times;
+        spent[0][i] = t[0] / items, spent[1][i] = t[1] / items;
     }
     sort(ratio, repeats), sort(spent[0], repeats), sort(spent[1], repeats);
     printf("%-44s %6.2f %6.2f %6.2f   %8.2f %8.2f\n", what, ratio[0], ratio[repeats / 2], ratio[repeats - 1], spent[0][repeats / 2],
@@ -292,13 +294,16 @@ static double units_tape(unsigned mode)
     return 200000;
 }
 
-static double mixed_tape(length records)
+/* So many records, the chips set up anew for each piece. */
+static double mixed_tape(length records, length piece)
 {
     size = 0;
     state = 7;
-    set_up();
-    while (size < 8 * records)
+    while (size < 8 * records) {
+        if (size % (8 * piece) == 0)
+            set_up();
         put_mixed(3, 4);
+    }
     return (double)records;
 }
 
@@ -306,18 +311,18 @@ static void time_all(int repeats)
 {
     double n;
     printf("%-44s %6s %6s %6s   %8s %8s\n", "proved / plain C, and ns for each", "least", "median", "most", "proved", "plain C");
-    n = pulses_tape(1), measure("pulse, three counters running", repeats, n, size, 1);
-    n = pulses_tape(0), measure("pulse, idle (no mode set)", repeats, n, size, 1);
-    n = pulses_tape(2), measure("pulse, idle (gates low)", repeats, n, size, 1);
-    n = mixed_tape(200000), measure("record, mixed", repeats, n, size, 1);
-    n = reads_tape(), measure("record, register reads", repeats, n, size, 1);
-    n = units_tape(0x94), measure("unit, block, device to memory", repeats, n, size, 1);
-    n = units_tape(0x98), measure("unit, block, memory to device", repeats, n, size, 1);
-    n = mixed_tape(1000), measure("record, mixed, tape of 1,000", repeats, n, size, 100);
-    n = mixed_tape(10000), measure("record, mixed, tape of 10,000", repeats, n, size, 10);
-    n = mixed_tape(100000), measure("record, mixed, tape of 100,000", repeats, n, size, 1);
-    n = mixed_tape(1000000), measure("record, mixed, tape of 1,000,000", repeats, n, size, 1);
-    n = mixed_tape(100000), measure("record, mixed, a call for each", repeats, n, 8, 1);
+    n = pulses_tape(1), measure("pulse, three counters running", repeats, n, size, size);
+    n = pulses_tape(0), measure("pulse, idle (no mode set)", repeats, n, size, size);
+    n = pulses_tape(2), measure("pulse, idle (gates low)", repeats, n, size, size);
+    n = mixed_tape(200000, 200000), measure("record, mixed", repeats, n, size, size);
+    n = reads_tape(), measure("record, register reads", repeats, n, size, size);
+    n = units_tape(0x94), measure("unit, block, device to memory", repeats, n, size, size);
+    n = units_tape(0x98), measure("unit, block, memory to device", repeats, n, size, size);
+    n = mixed_tape(MOST, 1000), measure("record, mixed, tapes of 1,000", repeats, n, 8 * 1000, size);
+    n = mixed_tape(MOST, 10000), measure("record, mixed, tapes of 10,000", repeats, n, 8 * 10000, size);
+    n = mixed_tape(MOST, 100000), measure("record, mixed, tapes of 100,000", repeats, n, 8 * 100000, size);
+    n = mixed_tape(MOST, MOST), measure("record, mixed, a tape of 1,000,000", repeats, n, size, size);
+    n = mixed_tape(200000, 200000), measure("record, mixed, a call for each", repeats, n, size, 8);
 }
 
 int main(int words, char **word)
