@@ -1,5 +1,6 @@
-/* A plain C board by the project's description of its three chips, written without a look at the proved one: state in one struct that is changed
- * in place, functions over pointers. It is what the bench measures the proved board against, and a third opinion on every answer. */
+/* A plain C board by the project's description of its three chips and the decisions in docs/DECISIONS.md: state in one struct that is changed
+ * in place, functions over pointers. It is what the bench measures the proved board against, and a third opinion on every answer. (When it was
+ * written, the proved board's structs, its loop over pulses and the start of its `intake` had been read, for the header; the code of the chips had not.) */
 #include "board.h"
 
 enum { DONE, BUSY, NO_SUCH, OUT_OF_TURN, NOT_BUILT, INT_LOW, COUNT_ONE, REFUSED };
