@@ -1,0 +1,58 @@
+/* The plain board of the bench: see board.c. */
+#ifndef PLAIN_BOARD_H
+#define PLAIN_BOARD_H
+
+typedef unsigned char byte;
+typedef unsigned short half;
+typedef unsigned int word;
+typedef unsigned long length;
+
+struct plain_pic {
+    byte phase;   /* the next initialization word, or ready */
+    byte page;    /* A7-A5, in place */
+    byte by_level, spaced4, wants_iw4;
+    byte iw2;
+    byte self_finish, vectored, rotating, shows_service;
+    byte pressed; /* edge requests */
+    byte service, mask, bottom;
+    byte lines;   /* INTP1-INTP7 */
+};
+
+struct plain_counter {
+    byte mode;    /* 0, 2, or NO_MODE */
+    byte access;  /* 1 low, 2 high, 3 both */
+    byte armed;   /* a count is complete */
+    byte load;    /* the next pulse transfers */
+    byte retrigger;
+    byte partial, partial_low;
+    byte frozen, upper_next;
+    byte gate, out;
+    half now, reload, snapshot;
+};
+
+struct plain_channel {
+    word address, base_address;
+    half left, base_left;
+    byte mode;
+};
+
+struct plain_dma {
+    struct plain_channel channel[4];
+    byte select, only_base, rotate, off, first;
+    byte owner;   /* the channel served, or NOBODY */
+    byte requests, ended, masked;
+};
+
+struct plain_board {
+    struct plain_pic pic;
+    struct plain_counter counter[3];
+    struct plain_dma dma;
+    byte waiting[7], waits; /* a cut record */
+};
+
+void plain_reset(struct plain_board *);
+
+/* One call, as document 01 has it: 0 and the records taken, or 7 and 0. The board is changed in place. */
+int plain_feed(struct plain_board *, const byte *tape, length tape_length, byte *memory, length memory_length, byte *answers,
+               length answers_length, length *records);
+#endif

@@ -1,0 +1,344 @@
+/* driver compare SEED TAPES   feeds random tapes in random lumps to both boards and compares every answer and the memory
+ * driver time REPEATS [WORD]  times both boards on the same tapes, by turns, and prints the ratios; with WORD the lines that have it
+ *
+ * Both boards are called the same way: a whole tape, or a lump of it, through one function each. Every timed run's answers are compared too. Times
+ * are of the processor's time of this process, so that other work on the machine counts as little as it can. */
+#include "../hosts/limbusagin.h"
+#include "board.h"
+
+int printf(const char *, ...);
+int strcmp(const char *, const char *);
+char *strstr(const char *, const char *);
+int memcmp(const void *, const void *, unsigned long);
+void *memcpy(void *, const void *, unsigned long);
+void *memset(void *, int, unsigned long);
+void *malloc(unsigned long);
+unsigned long strtoul(const char *, char **, int);
+int fflush(void *);
+_Noreturn void exit(int);
+struct moment {
+    long seconds, nanoseconds;
+};
+int clock_gettime(int, struct moment *);
+
+enum { MOST = 1000000, MEMORY = 1 << 20, PROCESS_TIME = 2 };
+
+static byte *tape, *answers[2], *memory[2], *start_memory;
+
+/* ---- the two boards ---- */
+
+static struct limbusagin_board proved;
+static struct plain_board plain;
+
+static int feed_proved(const byte *t, length n, byte *m, length mn, byte *a, length an, length *records)
+{
+    struct limbusagin_fed fed = limbusagin_feed(proved, t, n, m, mn, a, an);
+    proved = fed.board;
+    *records = fed.records;
+    return fed.status;
+}
+
+static int feed_plain(const byte *t, length n, byte *m, length mn, byte *a, length an, length *records)
+{
+    return plain_feed(&plain, t, n, m, mn, a, an, records);
+}
+
+static int (*const feed[2])(const byte *, length, byte *, length, byte *, length, length *) = {feed_proved, feed_plain};
+
+static void fresh(void)
+{
+    proved = limbusagin_fresh();
+    plain_reset(&plain);
+}
+
+/* ---- tapes ---- */
+
+static unsigned long state;
+
+static unsigned below(unsigned n)
+{
+    state = state * 6364136223846793005ul + 1442695040888963407ul;
+    return (unsigned)(state >> 33) % n;
+}
+
+static length size; /* bytes of the tape so far */
+
+static void put(unsigned a, unsigned b, unsigned c)
+{
+    byte *r = tape + size;
+    memset(r, 0, 8);
+    r[0] = (byte)a, r[1] = (byte)b, r[2] = (byte)c;
+    size += 8;
+}
+
+static void put_advance(unsigned n)
+{
+    put(5, 0, 0);
+    memcpy(tape + size - 4, &n, 4);
+}
+
+static void set_up(void) /* interrupt chip ready, edge trigger, vectors */
+{
+    put(1, 0x00, 0x13), put(1, 0x01, 0x40), put(1, 0x01, 0x01);
+}
+
+/* One record of a mixed tape; about wild in a hundred have one byte at random. */
+static void put_mixed(unsigned wild, unsigned pulses)
+{
+    static const byte control[] = {0, 4, 4, 0xC, 2, 0};
+    unsigned k = below(24);
+    switch (k) {
+    case 0: put(1, 0x00, below(256) | 0x12); break;
+    case 1: put(1, 0x01, below(2) ? below(256) & below(256) : below(256)); break;
+    case 2: put(1, 0x00, below(256) & 0xEF); break;
+    case 3: put(1, 0x13, below(3) << 6 | below(4) << 4 | control[below(6)]); break;
+    case 4:
+    case 5: put(1, 0x10 + below(3), below(2) ? below(4) : below(256)); break;
+    case 6: put(1, 0x21, below(8)); break;
+    case 7: put(1, 0x22 + below(5), below(3) ? below(4) : below(256)); break;
+    case 8: put(1, 0x22 + below(2) * 4, below(4)); break;
+    case 9: put(1, 0x2A, below(3) << 6 | below(4) << 4 | below(3) << 2); break;
+    case 10: put(1, 0x28 + 7 * below(2), below(2) ? 0x10 : below(16)); break;
+    case 11:
+    case 12:
+    case 13: put(2, below(3) == 0 ? below(2) : below(2) ? 0x10 + below(3) : 0x21 + below(15), 0); break;
+    case 14:
+    case 15: put(3, 0, below(128) * 2); break;
+    case 16: put(3, 1, below(2) ? 7 : below(8)); break;
+    case 17: put(3, 2, below(16)); break;
+    case 18: put(4, 0, 0); break;
+    case 19: put_advance(below(pulses)); break;
+    default: put(6, below(3) == 0, below(256));
+    }
+    if (below(100) < wild)
+        tape[size - 8 + below(8)] = (byte)below(256);
+    if (below(2000) == 0)
+        memset(tape + size - 8, 0, 8);
+}
+
+/* ---- comparison ---- */
+
+static void show(const char *who, const byte *at, int n)
+{
+    printf("  %s", who);
+    for (int i = 0; i < n; i++)
+        printf(" %02x", at[i]);
+    printf("\n");
+}
+
+static void compare(const char *what, length records, length memory_length)
+{
+    for (length i = 0; i < records; i++)
+        if (memcmp(answers[0] + 16 * i, answers[1] + 16 * i, 16)) {
+            printf("bench: the boards differ on %s at record %lu\n", what, i);
+            for (length j = i < 12 ? 0 : i - 12; j <= i; j++)
+                show("record", tape + 8 * j, 8);
+            show("proved", answers[0] + 16 * i, 16);
+            show("plain ", answers[1] + 16 * i, 16);
+            exit(1);
+        }
+    for (length i = 0; i < memory_length; i++)
+        if (memory[0][i] != memory[1][i]) {
+            printf("bench: the boards differ on %s in memory at %lu: proved %02x, plain %02x\n", what, i, memory[0][i], memory[1][i]);
+            exit(1);
+        }
+}
+
+static void compare_random(unsigned long seed, unsigned long tapes)
+{
+    unsigned long all = 0, seen[7][8] = {{0}};
+    for (unsigned long n = 0; n < tapes; n++) {
+        state = seed * 1000003 + n;
+        below(2);
+        size = 0;
+        length memory_length = below(3) == 0 ? 0 : below(2) ? below(200) : 70000;
+        unsigned wild = below(3) * 4, pulses = below(4) ? 6 : 400, records = 200 + below(3000);
+        if (below(2))
+            set_up();
+        while (size < 8 * records)
+            put_mixed(wild, pulses);
+        size -= below(8);
+        memcpy(memory[0], start_memory, memory_length), memcpy(memory[1], start_memory, memory_length);
+        fresh();
+        length done[2] = {0, 0};
+        for (int who = 0; who < 2; who++)
+            for (length at = 0; at < size;) {
+                length lump = below(20) == 0 ? below(3000) : below(40), taken;
+                lump = lump < size - at ? lump : size - at;
+                int status = feed[who](tape + at, lump, memory[who], memory_length, answers[who] + 16 * done[who],
+                                       16 * (MOST - done[who]), &taken);
+                if (status)
+                    printf("bench: status %d of a whole call\n", status), exit(1);
+                done[who] += taken;
+                at += lump;
+            }
+        if (done[0] != done[1])
+            printf("bench: the boards took %lu and %lu records\n", done[0], done[1]), exit(1);
+        compare("a random tape", done[0], memory_length);
+        all += done[0];
+        for (length i = 0; i < done[0]; i++)
+            if (answers[0][16 * i + 1] < 7)
+                seen[answers[0][16 * i + 1]][answers[0][16 * i]]++;
+    }
+    printf("compared: %lu random tapes in random lumps, %lu answers, no difference\n", tapes, all);
+    printf("  answers by operation, statuses 0 to 6:\n");
+    for (int op = 0; op < 7; op++) {
+        printf("  op %d:", op);
+        for (int s = 0; s < 7; s++)
+            printf(" %lu", seen[op][s]);
+        printf("\n");
+    }
+}
+
+/* ---- times ---- */
+
+static double now(void)
+{
+    struct moment m;
+    clock_gettime(PROCESS_TIME, &m);
+    return (double)m.seconds * 1e9 + (double)m.nanoseconds;
+}
+
+/* The tape is run in pieces, each on a fresh board, and a piece in lumps (both in bytes). */
+static double run(int who, length piece, length lump)
+{
+    length done = 0, taken, at = 0;
+    double begin = now();
+    while (at < size) {
+        length end = piece < size - at ? at + piece : size;
+        fresh();
+        while (at < end) {
+            length n = lump < end - at ? lump : end - at;
+            if (feed[who](tape + at, n, memory[who], MEMORY, answers[who] + 16 * done, 16 * (MOST - done), &taken))
+                printf("bench: status 7 of a whole call\n"), exit(1);
+            done += taken;
+            at += n;
+        }
+    }
+    return now() - begin;
+}
+
+static void sort(double *x, int n)
+{
+    for (int i = 1; i < n; i++)
+        for (int j = i; j > 0 && x[j] < x[j - 1]; j--) {
+            double y = x[j];
+            x[j] = x[j - 1], x[j - 1] = y;
+        }
+}
+
+static const char *only = "";
+
+static void measure(const char *what, int repeats, double items, length piece, length lump)
+{
+    static double ratio[1000], spent[2][1000];
+    if (!strstr(what, only))
+        return;
+    for (int i = -1; i < repeats; i++) { /* the first is not counted */
+        double t[2];
+        memcpy(memory[0], start_memory, MEMORY), memcpy(memory[1], start_memory, MEMORY);
+        for (int turn = 0; turn < 2; turn++) {
+            int who = (i & 1) ^ turn;
+            t[who] = run(who, piece, lump);
+        }
+        compare(what, size / 8, MEMORY);
+        if (i < 0)
+            continue;
+        ratio[i] = t[0] / t[1];
+        spent[0][i] = t[0] / items, spent[1][i] = t[1] / items;
+    }
+    sort(ratio, repeats), sort(spent[0], repeats), sort(spent[1], repeats);
+    printf("%-44s %6.2f %6.2f %6.2f   %8.2f %8.2f\n", what, ratio[0], ratio[repeats / 2], ratio[repeats - 1], spent[0][repeats / 2],
+           spent[1][repeats / 2]);
+    fflush(0);
+}
+
+static double pulses_tape(int kind)
+{
+    static const byte modes[3] = {0x34, 0x74, 0xB0}, low[3] = {3, 0xE8, 0}, high[3] = {0, 3, 0};
+    size = 0;
+    set_up();
+    for (unsigned c = 0; kind && c < 3; c++)
+        put(1, 0x13, modes[c]), put(1, 0x10 + c, low[c]), put(1, 0x10 + c, high[c]);
+    put_advance(1);
+    if (kind == 2)
+        put(3, 1, 0);
+    for (int i = 0; i < 20; i++)
+        put_advance(65535);
+    return 20 * 65535.0;
+}
+
+static double reads_tape(void)
+{
+    static const byte ports[] = {0x00, 0x01, 0x10, 0x11, 0x12, 0x21, 0x22, 0x23, 0x24, 0x25, 0x26, 0x28, 0x29, 0x2A, 0x2B, 0x2F};
+    size = 0;
+    state = 5;
+    set_up();
+    for (unsigned c = 0; c < 3; c++)
+        put(1, 0x13, c << 6 | 0x34), put(1, 0x10 + c, below(256)), put(1, 0x10 + c, below(256));
+    put_advance(300);
+    for (unsigned r = 2; r < 7; r++)
+        put(1, 0x20 + r, below(256));
+    while (size < 8 * 200000)
+        put(2, ports[below(16)], 0);
+    return 200000;
+}
+
+static double units_tape(unsigned mode)
+{
+    size = 0;
+    state = 6;
+    put(1, 0x22, 0xFF), put(1, 0x23, 0xFF), put(1, 0x2A, mode), put(1, 0x2F, 0x0E), put(3, 2, 1);
+    while (size < 8 * 200000)
+        put(6, 0, below(256));
+    return 200000;
+}
+
+/* So many records, the chips set up anew for each piece. */
+static double mixed_tape(length records, length piece)
+{
+    size = 0;
+    state = 7;
+    while (size < 8 * records) {
+        if (size % (8 * piece) == 0)
+            set_up();
+        put_mixed(3, 4);
+    }
+    return (double)records;
+}
+
+static void time_all(int repeats)
+{
+    double n;
+    printf("%-44s %6s %6s %6s   %8s %8s\n", "proved / plain C, and ns for each", "least", "median", "most", "proved", "plain C");
+    n = pulses_tape(1), measure("pulse, three counters running", repeats, n, size, size);
+    n = pulses_tape(0), measure("pulse, idle (no mode set)", repeats, n, size, size);
+    n = pulses_tape(2), measure("pulse, idle (gates low)", repeats, n, size, size);
+    n = mixed_tape(200000, 200000), measure("record, mixed", repeats, n, size, size);
+    n = reads_tape(), measure("record, register reads", repeats, n, size, size);
+    n = units_tape(0x94), measure("unit, block, device to memory", repeats, n, size, size);
+    n = units_tape(0x98), measure("unit, block, memory to device", repeats, n, size, size);
+    n = mixed_tape(MOST, 1000), measure("record, mixed, tapes of 1,000", repeats, n, 8 * 1000, size);
+    n = mixed_tape(MOST, 10000), measure("record, mixed, tapes of 10,000", repeats, n, 8 * 10000, size);
+    n = mixed_tape(MOST, 100000), measure("record, mixed, tapes of 100,000", repeats, n, 8 * 100000, size);
+    n = mixed_tape(MOST, MOST), measure("record, mixed, a tape of 1,000,000", repeats, n, size, size);
+    n = mixed_tape(200000, 200000), measure("record, mixed, a call for each", repeats, n, size, 8);
+}
+
+int main(int words, char **word)
+{
+    tape = malloc(8 * MOST + 64);
+    start_memory = malloc(MEMORY);
+    for (int i = 0; i < 2; i++)
+        answers[i] = malloc(16 * MOST), memory[i] = malloc(MEMORY);
+    state = 1;
+    for (int i = 0; i < MEMORY; i++)
+        start_memory[i] = (byte)below(256);
+    if (words == 4 && !strcmp(word[1], "compare"))
+        compare_random(strtoul(word[2], 0, 10), strtoul(word[3], 0, 10));
+    else if ((words == 3 || words == 4) && !strcmp(word[1], "time"))
+        only = words == 4 ? word[3] : "", time_all((int)strtoul(word[2], 0, 10));
+    else
+        printf("usage: driver compare SEED TAPES; driver time REPEATS [WORD]\n"), exit(2);
+    return 0;
+}

@@ -1,0 +1,109 @@
+/* host SEED [MEMORY] <TAPE >ANSWERS: feeds the tape to a fresh board in random lumps (of 0 to 40 bytes, now and then of some
+ * thousands), writes the answers, and leaves the memory in the file MEMORY. It is `./run feed` with other lumps, in C.
+ *
+ * The toolchain's compiler comes without C's headers, so the few functions of the C library are declared here. */
+#include "limbusagin.h"
+
+int open(const char *, int, ...);
+long read(int, void *, unsigned long);
+long write(int, const void *, unsigned long);
+int close(int);
+void *realloc(void *, unsigned long);
+unsigned long strlen(const char *);
+unsigned long strtoul(const char *, char **, int);
+_Noreturn void exit(int);
+
+enum { READING = 0, REPLACING = 01 | 01000 }; /* O_RDONLY; O_WRONLY and O_TRUNC, on Linux */
+
+struct bytes {
+    unsigned char *at;
+    unsigned long length;
+};
+
+static void fail(const char *what)
+{
+    write(2, "host: ", 6);
+    write(2, what, strlen(what));
+    write(2, "\n", 1);
+    exit(1);
+}
+
+static struct bytes read_whole(int from, const char *name)
+{
+    struct bytes b = {0, 0};
+    unsigned long room = 65536;
+    for (;;) {
+        b.at = realloc(b.at, room);
+        if (!b.at)
+            fail("no memory left");
+        long got = read(from, b.at + b.length, room - b.length);
+        if (got < 0)
+            fail(name);
+        if (got == 0)
+            return b;
+        b.length += (unsigned long)got;
+        if (b.length == room)
+            room *= 2;
+    }
+}
+
+static void write_whole(int to, const unsigned char *at, unsigned long length, const char *name)
+{
+    while (length) {
+        long put = write(to, at, length);
+        if (put <= 0)
+            fail(name);
+        at += put;
+        length -= (unsigned long)put;
+    }
+}
+
+static unsigned long state;
+
+static unsigned long below(unsigned long n)
+{
+    state = state * 6364136223846793005ul + 1442695040888963407ul;
+    return (state >> 33) % n;
+}
+
+int main(int words, char **word)
+{
+    static unsigned char answers[LIMBUSAGIN_ANSWER * 1024];
+    unsigned char none = 0;
+    struct bytes memory = {&none, 0}; /* a pointer is valid also for length 0 */
+    if (words < 2 || words > 3)
+        fail("usage: host SEED [MEMORY] <TAPE >ANSWERS");
+    if (limbusagin_version() != LIMBUSAGIN_VERSION)
+        fail("the library is of another version than the header");
+    state = strtoul(word[1], 0, 10);
+    if (words == 3) {
+        int file = open(word[2], READING);
+        if (file < 0)
+            fail(word[2]);
+        memory = read_whole(file, word[2]);
+        close(file);
+    }
+    struct bytes tape = read_whole(0, "standard input");
+    struct limbusagin_board board = limbusagin_fresh();
+    unsigned long at = 0;
+    while (at < tape.length) {
+        unsigned long lump = below(50) == 0 ? below(8000) : below(41);
+        if (lump > tape.length - at)
+            lump = tape.length - at;
+        struct limbusagin_fed fed =
+            limbusagin_feed(board, tape.at + at, lump, memory.at, memory.length, answers, sizeof answers);
+        if (fed.status != 0)
+            fail("status 7");
+        write_whole(1, answers, LIMBUSAGIN_ANSWER * fed.records, "standard output");
+        board = fed.board;
+        at += lump;
+    }
+    if (words == 3) {
+        int file = open(word[2], REPLACING);
+        if (file < 0)
+            fail(word[2]);
+        write_whole(file, memory.at, memory.length, word[2]);
+        close(file);
+    }
+    return 0;
+}

@@ -1,0 +1,90 @@
+//! host SEED [MEMORY] <TAPE >ANSWERS: feeds the tape to a fresh board in random lumps (of 0 to 40 bytes, now and then of some
+//! thousands), writes the answers, and leaves the memory in the file MEMORY. It is `./run feed` with other lumps, in Rust.
+//! host layout: prints where each field of a board lies.
+#![forbid(unsafe_code)]
+
+use limbusagin::{ANSWER, Board, Channel, Counter, Fed, VERSION, version};
+use std::error::Error;
+use std::io::{Read, Write, stdin, stdout};
+use std::mem::offset_of;
+
+struct Random(u64);
+
+impl Random {
+    fn below(&mut self, n: u64) -> usize {
+        self.0 = self.0.wrapping_mul(6364136223846793005).wrapping_add(1442695040888963407);
+        ((self.0 >> 33) % n) as usize
+    }
+}
+
+fn main() -> Result<(), Box<dyn Error>> {
+    let words: Vec<String> = std::env::args().skip(1).collect();
+    if words.len() == 1 && words[0] == "layout" {
+        layout();
+        return Ok(());
+    }
+    if words.is_empty() || words.len() > 2 {
+        return Err("usage: host SEED [MEMORY] <TAPE >ANSWERS".into());
+    }
+    if version() != VERSION {
+        return Err("the library is of another version than the module".into());
+    }
+    let mut random = Random(words[0].parse()?);
+    let mut memory = match words.get(1) {
+        Some(file) => std::fs::read(file)?,
+        None => Vec::new(),
+    };
+    let mut tape = Vec::new();
+    stdin().read_to_end(&mut tape)?;
+    let mut answers = [0; ANSWER * 1024];
+    let mut board = Board::fresh();
+    let mut rest = &tape[..];
+    while !rest.is_empty() {
+        let most = if random.below(50) == 0 { random.below(8000) } else { random.below(41) };
+        let (lump, after) = rest.split_at(most.min(rest.len()));
+        let taken = board.feed(lump, &mut memory, &mut answers)?;
+        stdout().write_all(&answers[..ANSWER * taken])?;
+        rest = after;
+    }
+    stdout().flush()?;
+    if let Some(file) = words.get(1) {
+        std::fs::write(file, memory)?;
+    }
+    Ok(())
+}
+
+fn size<T, U>(_: fn(&T) -> &U) -> usize {
+    size_of::<U>()
+}
+
+macro_rules! show {
+    ($type:ty, $name:expr, $from:expr, $($field:tt)+) => {
+        println!("{}{} {} {}", $name, stringify!($($field)+), $from + offset_of!($type, $($field)+), size(|x: &$type| &x.$($field)+))
+    };
+}
+
+macro_rules! show_all {
+    ($type:ty, $name:expr, $from:expr; $($($field:ident).+),+) => { $( show!($type, $name, $from, $($field).+); )+ };
+}
+
+fn layout() {
+    show_all!(Board, "", 0; icu.stage, icu.iw1, icu.iw2, icu.sfi, icu.vector, icu.rotation, icu.showsisr, icu.edges, icu.isr, icu.imr,
+        icu.lowest, intp);
+    for i in 0..3 {
+        let from = offset_of!(Board, timer.counters) + i * size_of::<Counter>();
+        show_all!(Counter, format!("timer.counters[{i}]."), from; mode, format, value, count, full, pending, trigger, half, low, latched,
+            latch, second, gate, out);
+    }
+    for i in 0..4 {
+        let from = offset_of!(Board, dma.channels) + i * size_of::<Channel>();
+        show_all!(Channel, format!("dma.channels[{i}]."), from; current.address, current.count, base.address, base.count, mode, masked);
+    }
+    show_all!(Board, "", 0; dma.selected, dma.base, dma.rotate, dma.disabled, dma.first, dma.serving, dma.channel, dma.requests, dma.ends);
+    for i in 0..7 {
+        println!("kept.bytes[{i}] {} 1", offset_of!(Board, kept.bytes) + i);
+    }
+    show_all!(Board, "", 0; kept.length);
+    println!("board 0 {}", size_of::<Board>());
+    show_all!(Fed, "fed.", 0; status, records, board);
+    println!("fed 0 {}", size_of::<Fed>());
+}

@@ -1,0 +1,92 @@
+"""tapes.py FOLDER: writes tapes for the hosts to FOLDER, each NAME.tape with a NAME.memory beside it. The same ones each time."""
+import os
+import random
+import sys
+
+
+def record(*first):
+    return bytes(first) + bytes(8 - len(first))
+
+
+def advance(n):
+    return bytes([5, 0, 0, 0]) + n.to_bytes(4, "little")
+
+
+def likely(r):
+    """A record that mostly is taken, or refused for what the board is at."""
+    ports = [0x00, 0x01, 0x10, 0x11, 0x12] + list(range(0x20, 0x30))
+    k = r.randrange(24)
+    if k == 0:
+        return record(1, 0x00, r.randrange(256) | 0x12)
+    if k == 1:
+        return record(1, 0x01, r.choice([0, 0x40, r.randrange(256)]))
+    if k == 2:
+        return record(1, 0x00, r.randrange(256) & 0xEF)
+    if k == 3:
+        return record(1, 0x13, r.randrange(3) << 6 | r.randrange(4) << 4 | r.choice([0, 4, 4, 0xC, 2]))
+    if k in (4, 5):
+        return record(1, 0x10 + r.randrange(3), r.choice([0, 1, 2, 3, r.randrange(256)]))
+    if k == 6:
+        return record(1, 0x21, r.randrange(8))
+    if k == 7:
+        return record(1, r.choice([0x22, 0x24, 0x25]), r.randrange(256))
+    if k == 8:
+        return record(1, r.choice([0x23, 0x26]), 0)
+    if k == 9:
+        return record(1, 0x2A, r.choice([0, 0x40, 0x80]) | r.randrange(4) << 4 | r.randrange(3) << 2)
+    if k == 10:
+        return record(1, r.choice([0x28, 0x2F]), r.choice([0, 0, 0x10]))
+    if k in (11, 12):
+        return record(2, r.choice(ports))
+    if k == 13:
+        return record(3, 0, r.randrange(128) * 2)
+    if k == 14:
+        return record(3, 1, r.choice([7, 7, r.randrange(8)]))
+    if k == 15:
+        return record(3, 2, r.randrange(16))
+    if k == 16:
+        return record(4)
+    if k == 17:
+        return advance(r.choice([0, 1, 2, 3, r.randrange(300)]))
+    return record(6, r.randrange(2), r.randrange(256))
+
+
+def mixed(seed, n, wild):
+    r = random.Random(seed)
+    out = []
+    for _ in range(n):
+        x = bytearray(likely(r))
+        if r.randrange(100) < wild:
+            x[r.randrange(8)] = r.randrange(256)
+        if r.randrange(3000) == 0:
+            x = record(0)
+        out.append(bytes(x))
+    return b"".join(out)
+
+
+def main(folder):
+    os.makedirs(folder, exist_ok=True)
+    r = random.Random(71)
+    tapes = {
+        "empty": (b"", 0),
+        "cut": (mixed(1, 5, 0)[:-3], 16),
+        "mixed": (mixed(2, 20000, 5), 65536),
+        "small-memory": (mixed(3, 20000, 2), 100),
+        "no-memory": (mixed(4, 5000, 2), 0),
+        "noise": (bytes(r.choice([0, 0, 0, 0, r.randrange(7), r.randrange(256)]) for _ in range(80003)), 4096),
+        "long-advances": (
+            record(1, 0x00, 0x13) + record(1, 0x01, 0x40) + record(1, 0x01, 0x01)
+            + b"".join(record(1, 0x13, c << 6 | 0x14) + record(1, 0x10 + c, 5 + c) for c in range(3))
+            + b"".join(advance(65535 - i) + record(4) + record(1, 0x00, 0x20) for i in range(6)), 0),
+        "block": (
+            record(1, 0x2A, 0x84) + record(1, 0x23, 0x10) + record(1, 0x2F, 0x0E) + record(3, 2, 1)
+            + b"".join(record(6, 0, i & 255) for i in range(4100)), 4000),
+    }
+    for name, (tape, memory) in tapes.items():
+        with open(os.path.join(folder, name + ".tape"), "wb") as f:
+            f.write(tape)
+        with open(os.path.join(folder, name + ".memory"), "wb") as f:
+            f.write(r.randbytes(memory))
+
+
+main(sys.argv[1])
