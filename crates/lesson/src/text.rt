@@ -1,0 +1,279 @@
+// A short text, built piece by piece, and the columns that it is laid out in.
+use libc::STDERR_FILENO;
+use libc::STDOUT_FILENO;
+
+// What does not fit is left off.
+pub struct Text {
+    pub bytes: [u8; 240],
+    pub n: usize,
+}
+
+// The character of a hexadecimal digit.
+fn glyph(d: u8) -> u8 {
+    if d < 10 {
+        return 48 + d;
+    }
+    if d < 16 {
+        return 55 + d;
+    }
+    b'?'
+}
+
+impl Text {
+    pub fn new() -> Text {
+        Text {
+            bytes: [0u8; 240],
+            n: 0,
+        }
+    }
+
+    pub fn put(mut self, b: u8) -> Text {
+        let n = self.n;
+        if n < 240 {
+            self.bytes[n] = b;
+            self.n = n + 1;
+            return self;
+        }
+        self
+    }
+
+    pub fn say(self, s: &[u8]) -> Text {
+        let mut t = self;
+        let mut i = 0;
+        while i < s.len() {
+            t = t.put(s[i]);
+            i += 1;
+        }
+        t
+    }
+
+    // A byte as two hexadecimal digits.
+    pub fn hex(self, x: u8) -> Text {
+        self.put(glyph(x / 16)).put(glyph(x % 16))
+    }
+
+    // An address as six.
+    pub fn address(self, a: u32) -> Text {
+        let high = (a / 65536 % 256) as u8;
+        let middle = (a / 256 % 256) as u8;
+        let low = (a % 256) as u8;
+        self.hex(high).hex(middle).hex(low)
+    }
+
+    pub fn decimal(self, x: u64) -> Text {
+        let mut digits = [0u8; 20];
+        let k = io::decimal(x, &mut digits);
+        self.say(&digits[..k])
+    }
+
+    // A number that ends in column 5, as line numbers do.
+    pub fn number(self, x: u64) -> Text {
+        if x < 10 {
+            return self.say(b"    ").decimal(x);
+        }
+        if x < 100 {
+            return self.say(b"   ").decimal(x);
+        }
+        if x < 1000 {
+            return self.say(b"  ").decimal(x);
+        }
+        if x < 10000 {
+            return self.say(b" ").decimal(x);
+        }
+        self.decimal(x)
+    }
+
+    // Spaces up to a column.
+    pub fn pad(self, to: usize) -> Text {
+        let mut t = self;
+        let mut i: usize = 0;
+        while i < 240 {
+            if to <= t.n {
+                return t;
+            }
+            t = t.put(b' ');
+            i += 1;
+        }
+        t
+    }
+
+    // The bytes of another text from one place up to another.
+    pub fn part(self, other: Text, from: usize, to: usize) -> Text {
+        let mut t = self;
+        let mut i = from;
+        while i < to {
+            if 239 < i {
+                return t;
+            }
+            t = t.put(other.bytes[i]);
+            i += 1;
+        }
+        t
+    }
+
+    // The numbers of the bits that are set, each with a space before it.
+    pub fn bits(self, x: u8) -> Text {
+        if x == 0 {
+            return self.say(b" none");
+        }
+        self.bit(x, 0)
+            .bit(x, 1)
+            .bit(x, 2)
+            .bit(x, 3)
+            .bit(x, 4)
+            .bit(x, 5)
+            .bit(x, 6)
+            .bit(x, 7)
+    }
+
+    fn bit(self, x: u8, n: u8) -> Text {
+        if bits::bit(x, n) {
+            return self.put(b' ').put(glyph(n));
+        }
+        self
+    }
+
+    // OUT0 to OUT2 and INT, as an answer's byte 3 has them.
+    pub fn levels(self, x: u8) -> Text {
+        self.level(x, 0)
+            .level(x, 1)
+            .level(x, 2)
+            .say(b"  ")
+            .level(x, 3)
+    }
+
+    fn level(self, x: u8, n: u8) -> Text {
+        if bits::bit(x, n) {
+            return self.put(b'1');
+        }
+        self.put(b'0')
+    }
+
+    fn is_space(self, i: usize) -> bool {
+        if i < 240 {
+            return self.bytes[i] == b' ';
+        }
+        false
+    }
+
+    // Where a piece that starts at `from` ends, so that it fits the width: at a space if there is one.
+    fn break_at(self, from: usize, width: usize) -> usize {
+        let n = self.n;
+        if n <= from {
+            return n;
+        }
+        if n - from <= width {
+            return n;
+        }
+        let most = from + width;
+        let mut i = most;
+        while from < i {
+            if self.is_space(i) {
+                return i;
+            }
+            i -= 1;
+        }
+        most
+    }
+
+    // The next piece starts past the space that the last one ended at.
+    fn after(self, i: usize) -> usize {
+        if self.is_space(i) {
+            if i < 240 {
+                return i + 1;
+            }
+            return i;
+        }
+        i
+    }
+
+    // To standard output.
+    pub fn print(self) -> bool {
+        let bytes = self.bytes;
+        let n = self.n;
+        write_array(STDOUT_FILENO, &bytes, n)
+    }
+
+    // To standard error.
+    pub fn complain(self) {
+        let bytes = self.bytes;
+        let n = self.n;
+        write_array(STDERR_FILENO, &bytes, n);
+    }
+}
+
+// The array as a slice: its length is known by its type here.
+fn write_array(fd: i32, b: &[u8; 240], n: usize) -> bool {
+    write_part(fd, b, n)
+}
+
+pub fn write_part(fd: i32, b: &[u8], n: usize) -> bool {
+    if b.len() < n {
+        return false;
+    }
+    io::write_all(fd, &b[..n])
+}
+
+// One record's row: its number, what was asked, the answer, the levels. Where a text is too long for its column, the row goes on below.
+pub fn print_row(number: u64, asked: Text, answer: Text, levels: u8) -> bool {
+    let a = asked.break_at(0, 30);
+    let b = answer.break_at(0, 34);
+    let row = Text::new()
+        .number(number)
+        .put(b' ')
+        .part(asked, 0, a)
+        .put(b' ')
+        .pad(37)
+        .part(answer, 0, b)
+        .put(b' ')
+        .pad(72)
+        .levels(levels)
+        .put(b'\n');
+    if row.print() {
+        return print_rest(asked, asked.after(a), answer, answer.after(b));
+    }
+    false
+}
+
+fn is_done(asked: Text, a: usize, answer: Text, b: usize) -> bool {
+    if asked.n <= a {
+        return answer.n <= b;
+    }
+    false
+}
+
+// The answer's piece beside the other, with no spaces where there is none.
+fn add_answer(left: Text, answer: Text, from: usize, to: usize) -> Text {
+    if to <= from {
+        return left;
+    }
+    left.pad(37).part(answer, from, to)
+}
+
+fn print_rest(asked: Text, from: usize, answer: Text, start: usize) -> bool {
+    let mut a = from;
+    let mut b = start;
+    let mut turns: usize = 0;
+    while turns < 240 {
+        if is_done(asked, a, answer, b) {
+            return true;
+        }
+        let e = asked.break_at(a, 30);
+        let f = answer.break_at(b, 34);
+        let left = Text::new().pad(6).part(asked, a, e);
+        if !add_answer(left, answer, b, f).put(b'\n').print() {
+            return false;
+        }
+        a = asked.after(e);
+        b = answer.after(f);
+        turns += 1;
+    }
+    true
+}
+
+pub fn print_heads() -> bool {
+    io::write_all(
+        STDOUT_FILENO,
+        b" line asked                          answer                             OUT INT\n",
+    )
+}
