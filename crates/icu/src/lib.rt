@@ -51,7 +51,7 @@ pub enum Acknowledged {
 }
 
 // The highest-ranked level whose bit is set in x, 8 where none is.
-fn highest(x: u8, lowest: u8) -> u8
+pub fn highest(x: u8, lowest: u8) -> u8
     ensures { λ r. ⌜ r ≡ highestOf x lowest ⌝ }
     ensures { λ r. ⌜ r ≤ 8 ⌝ }
 {
@@ -256,7 +256,7 @@ impl Icu {
     }
 
     // IRR: in level trigger the lines as they are, in edge trigger the rises not yet acknowledged.
-    fn irr(self, lines: u8) -> u8
+    pub fn irr(self, lines: u8) -> u8
         ensures { λ r. ⌜ r ≡ irrOf self lines ⌝ }
     {
         if bits::bit(self.iw1, 3) {
@@ -266,7 +266,7 @@ impl Icu {
     }
 
     // The requested levels that IMR leaves.
-    fn asked(self, lines: u8) -> u8
+    pub fn asked(self, lines: u8) -> u8
         ensures { λ r. ⌜ r ≡ askedOf self lines ⌝ }
     {
         bits::masked(self.irr(lines), self.imr)
