@@ -8,7 +8,8 @@ use super::stretch::Answers;
 const OPERATIONS: usize = 8;
 
 const KINDS: usize = 16;
-// Records, calls of the first board, of them those refused with 7, those that were not what they should be, and differences.
+// Records, calls of the first board, of them those refused with 7, those that were not what they should be, differences, and calls on a board
+// with a field out of its range.
 pub const RECORDS: usize = 20;
 
 pub const CALLS: usize = 21;
@@ -18,6 +19,8 @@ pub const REFUSED: usize = 22;
 pub const WRONG: usize = 23;
 
 pub const DIFFERENCES: usize = 24;
+
+pub const SPOILT: usize = 25;
 
 pub fn add(tally: &mut [u64; 32], at: usize) {
     let i = at % 32;
@@ -98,6 +101,7 @@ pub fn print_all(tally: &[u64; 32]) {
     print_count(b"records: ", tally, RECORDS);
     print_count(b"calls: ", tally, CALLS);
     print_count(b"calls refused with 7: ", tally, REFUSED);
+    print_count(b"of them for a field out of range: ", tally, SPOILT);
     print_statuses(tally);
     print_operations(tally);
     print_kinds(tally);

@@ -1,9 +1,11 @@
 // The first board: `intake::feed` over a stretch, in lumps of 0 to 70 bytes that a seed draws. Records are cut anywhere.
 //
-// One lump in four that completes a record is fed twice: first with a buffer one byte too short, which has to be refused with 7 and to
-// change nothing, then with room. One in eight follows an empty call. Now and then the buffer has bytes to spare.
+// One lump in four that completes a record is first fed with a buffer one byte too short, and one in sixteen to a board with a field out of its
+// range. Both calls have to be refused with 7 and to change nothing. One lump in eight follows an empty call, and the buffer has
+// bytes to spare now and then.
 use super::counts;
 use super::same;
+use super::spoilt;
 use super::stretch;
 use super::stretch::Answers;
 use super::stretch::Memory;
@@ -144,6 +146,35 @@ fn feed_whole(
     }
 }
 
+// A call that has to be refused with 7 and to change nothing. Gives the board after it.
+fn refuse(
+    board: Board,
+    tape: &Tape,
+    at: usize,
+    end: usize,
+    memory: &mut Memory,
+    length: usize,
+    answers: &mut Answers,
+    from: usize,
+    to: usize,
+    tally: &mut [u64; 32],
+) -> Board {
+    let mut memory_before = [0u8; 4096];
+    let mut answers_before = [0u8; 1088];
+    stretch::copy_memory(memory, &mut memory_before);
+    stretch::copy_answers(answers, &mut answers_before);
+    let fed = call(board, tape, at, end, memory, length, answers, from, to);
+    let next = fed.board;
+    let unchanged = same::same_board(board, next)
+        & same_memory(&memory_before, memory)
+        & same_answers(&answers_before, answers);
+    let whole = (fed.status == 7) & (fed.records == 0) & unchanged;
+    counts::add(tally, counts::CALLS);
+    counts::add_if(tally, counts::REFUSED, fed.status == 7);
+    counts::add_if(tally, counts::WRONG, !whole);
+    next
+}
+
 // The same lump, with a buffer one byte too short, if it completes a record and the draw says so.
 fn feed_short(
     run: Run,
@@ -160,13 +191,9 @@ fn feed_short(
     if k == 0 || run.seed / 8 % 4 != 0 {
         return run;
     }
-    let mut memory_before = [0u8; 4096];
-    let mut answers_before = [0u8; 1088];
-    stretch::copy_memory(memory, &mut memory_before);
-    stretch::copy_answers(answers, &mut answers_before);
     let done = run.done % 65;
     let from = done * 16;
-    let fed = call(
+    let next = refuse(
         board,
         tape,
         at,
@@ -176,20 +203,47 @@ fn feed_short(
         answers,
         from,
         from + k * 16 - 1,
+        tally,
     );
-    let next = fed.board;
-    counts::add(tally, counts::CALLS);
-    let unchanged = same::same_board(board, next)
-        & same_memory(&memory_before, memory)
-        & same_answers(&answers_before, answers);
-    let whole = (fed.status == 7) & (fed.records == 0) & unchanged;
-    counts::add_if(tally, counts::REFUSED, fed.status == 7);
-    counts::add_if(tally, counts::WRONG, !whole);
     Run {
         board: next,
         seed: run.seed,
         done: done,
     }
+}
+
+// The same lump, with a field of the board out of its range, if the draw says so. The run goes on with the board as it was.
+fn feed_spoilt(
+    run: Run,
+    tape: &Tape,
+    at: usize,
+    end: usize,
+    memory: &mut Memory,
+    length: usize,
+    answers: &mut Answers,
+    tally: &mut [u64; 32],
+) -> Run {
+    let board = run.board;
+    let k = completes(board, at, end);
+    if run.seed / 256 % 16 != 0 {
+        return run;
+    }
+    let from = run.done % 65 * 16;
+    let bad = spoilt::spoil(board, run.seed / 4096);
+    counts::add(tally, counts::SPOILT);
+    refuse(
+        bad,
+        tape,
+        at,
+        end,
+        memory,
+        length,
+        answers,
+        from,
+        from + k * 16,
+        tally,
+    );
+    run
 }
 
 // An empty call before the lump, if the draw says so.
@@ -220,7 +274,8 @@ fn feed_lump(
 ) -> Run {
     let a = feed_nothing(run, tape, at, memory, length, answers, tally);
     let b = feed_short(a, tape, at, end, memory, length, answers, tally);
-    feed_whole(b, tape, at, end, memory, length, answers, tally)
+    let c = feed_spoilt(b, tape, at, end, memory, length, answers, tally);
+    feed_whole(c, tape, at, end, memory, length, answers, tally)
 }
 
 // The length of the next lump, of which `left` bytes are left.

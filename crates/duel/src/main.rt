@@ -7,6 +7,7 @@ mod run;
 mod same;
 mod second;
 mod show;
+mod spoilt;
 mod stretch;
 mod tapes;
 

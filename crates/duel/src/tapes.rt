@@ -1,15 +1,15 @@
 // Tapes from a seed: records steered so that the chips are really used.
 //
 // The maker mostly makes single records, drawn by weights. Now and then it starts a script, which sets a chip up record by record, with single
-// records strewn in: the initializing words of the interrupt chip, a counter's mode and count, or a channel with its requests and cycles. In the
-// end one record in thirty-two has a byte changed, whatever that makes of it.
+// records strewn in: the initializing words of the interrupt chip, a counter's mode and count, a channel with its requests and cycles, or a latch
+// and reads of a counter. In the end one record in thirty-two has a byte changed, whatever that makes of it.
 //
 // Addresses lie near 0, near the memory's end and near FFFFFFH.
 use super::second;
 
 pub struct Maker {
     pub seed: u32,
-    // 0 none, 1 interrupt chip, 2 counter, 3 channel.
+    // 0 none, 1 interrupt chip, 2 counter, 3 channel, 4 reads of a counter.
     pub script: u32,
     pub step: u32,
     // What the script drew when it began.
@@ -77,22 +77,36 @@ fn put_advance(record: &mut [u8; 8], y: u32) {
     if y / 16 % 256 == 0 {
         record[5] = low(y / 65536);
     }
+    if y / 16 % 256 == 1 {
+        put_65536(record);
+    }
+}
+
+// One pulse more than a record may ask for.
+fn put_65536(record: &mut [u8; 8]) {
+    put(record, 5, 0, 0);
+    record[6] = 1;
 }
 
 fn put_cycle(record: &mut [u8; 8], y: u32) {
     put(record, 6, seldom(y, 13, 1), y / 256);
 }
 
+// One in 32 records of lines has a level that its group lacks.
+fn stray(y: u32, level: u32) -> u32 {
+    seldom(y / 65536, 31, level)
+}
+
 fn put_lines(record: &mut [u8; 8], y: u32) {
-    put(record, 3, 0, y & y >> 8 & 0xFE);
+    put(record, 3, 0, y & y >> 8 & 0xFE | stray(y, 1));
 }
 
 fn put_gates(record: &mut [u8; 8], y: u32) {
-    put(record, 3, 1, (y | y >> 8) % 8);
+    put(record, 3, 1, (y | y >> 8) % 8 | stray(y, 8));
 }
 
 fn put_requests(record: &mut [u8; 8], y: u32) {
-    put(record, 3, 2, y % 16 & y >> 8);
+    put(record, 3, 2, y % 16 & y >> 8 | stray(y, 16));
 }
 
 // PFCW and MCW, each command twice or once, with levels.
@@ -145,7 +159,7 @@ fn put_count_byte(record: &mut [u8; 8], y: u32) {
 }
 
 fn put_dma_write(record: &mut [u8; 8], y: u32) {
-    put_write(record, 0x21 + y % 15, y / 256);
+    put_write(record, 0x20 + y % 16, y / 256);
 }
 
 fn put_any_write(record: &mut [u8; 8], y: u32) {
@@ -365,12 +379,37 @@ fn put_channel_step(record: &mut [u8; 8], step: u32, choice: u32, memory: u32, y
     put_cycle(record, y);
 }
 
+// The script of reads: a latch, pulses, a byte, another latch or a byte, and two bytes.
+
+fn put_latch_of(record: &mut [u8; 8], c: u32, y: u32) {
+    put_write(record, 0x13, c % 3 * 64 + y % 16);
+}
+
+fn put_read_step(record: &mut [u8; 8], step: u32, choice: u32, y: u32) {
+    if step == 0 {
+        put_latch_of(record, choice, y);
+        return;
+    }
+    if step == 1 {
+        put_advance(record, y);
+        return;
+    }
+    if step == 3 && choice / 4 % 2 == 0 {
+        put_latch_of(record, choice, y);
+        return;
+    }
+    put(record, 2, 0x10 + choice % 3, 0);
+}
+
 fn steps_of(script: u32, choice: u32) -> u32 {
     if script == 1 {
         return 4;
     }
     if script == 2 {
         return counter_steps(choice);
+    }
+    if script == 4 {
+        return 6;
     }
     choice / 4096 % 10 + 12
 }
@@ -385,6 +424,10 @@ fn put_step(record: &mut [u8; 8], m: Maker, y: u32) {
     }
     if script == 2 {
         put_counter_step(record, step, choice, y);
+        return;
+    }
+    if script == 4 {
+        put_read_step(record, step, choice, y);
         return;
     }
     put_channel_step(record, step, choice, m.memory, y);
@@ -410,6 +453,9 @@ fn begun(x: u32) -> u32 {
     }
     if k < 10 {
         return 3;
+    }
+    if k < 12 {
+        return 4;
     }
     0
 }
