@@ -1,3 +1,5 @@
 pub mod Lists
+pub mod Looks
 pub mod Numbers
+pub mod Plain
 pub mod Ranks

@@ -2,7 +2,7 @@
 use Prim.Native.Nat.{ℕ, zero, suc, _+_, _/_, _%_}
 use mathlib.Core.List.{List}
 use mathlib.Core.Bool.{Bool, true, false, not}
-use lib.Dec.{eqb, ltb}
+use lib.Dec.{eqb, ltb, leb}
 use lib.ListN.{getD, set}
 use Rattle.bits.specs.Choice.{if_then_else_, _and_, _or_}
 use Rattle.bits.specs.Bits.{bitOf, withOf, less}
@@ -162,3 +162,16 @@ cycleBy d e b m serving releases disabled unready =
 -- A cycle with END e and the device's byte b, which matter to a unit alone.
 unfoldable pub cycleOf : Dma → Bool → ℕ → List ℕ → Out
 cycleOf d e b m = cycleBy d e b m (d .serving) (releases d) (d .disabled) (eqb (winner d) 4)
+
+-- A unit of channel n, which is c, that is neither the last nor stops service: its channel alone changes, and of that the current address and
+-- count.
+unfoldable pub plainOf : Channel → Bool → ℕ → ℕ → Bool → Bool
+plainOf c serving n requests e =
+    if serving then
+    (if leb 4 n then false
+    else if e then false
+    else if eqb (c .current .count) 0 then false
+    else if single c then false
+    else if demand c then bitOf requests n
+    else true)
+    else false

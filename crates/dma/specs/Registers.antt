@@ -12,6 +12,7 @@ use Rattle.dma.specs.declared.Channel.{Channel}
 use Rattle.dma.specs.declared.Dma.{Dma}
 use Rattle.dma.specs.declared.Written.{Written}
 use Rattle.dma.specs.declared.Got.{Got}
+use Rattle.dma.specs.declared.Seen.{Seen}
 use Rattle.dma.specs.Fields.{span, current-is, base-is, mode-is, masked-is, chan, selected, channels-are, selection-is, control-is, requests-are, turned}
 
 -- Reset: every channel masked, all else zero.
@@ -183,3 +184,10 @@ readAt d r =
 
 unfoldable pub readOf : Dma → ℕ → Got
 readOf d r = readAt d (r % 16)
+
+-- A read by what it shows, and the end bits after it. It changes nothing else of the chip.
+abbrev pub seenAs : Got → Seen
+seenAs g = record { status = g .status; byte = g .byte; ends = g .dma .ends }
+
+unfoldable pub seenOf : Dma → ℕ → Seen
+seenOf d r = seenAs (readOf d r)

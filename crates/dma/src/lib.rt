@@ -6,9 +6,9 @@ ghost use mathlib.Core.List.{[]};
 ghost use Prim.Native.Nat.{_≤_, _<_};
 ghost use lib.ListN.{set};
 ghost use Rattle.dma.specs.Fields.{chan, channels-are};
-ghost use Rattle.dma.specs.Registers.{resetOf, requestedOf, taken, refused, initializedOf, selectedOf, replacedOf, loadedOf, keptFirst, controlledOf, heldZero, unbuiltMode, modedOf, maskedBy, writeOf, shows, unread, byteAt, shownSpan, statusShown, masksOf, readOf};
+ghost use Rattle.dma.specs.Registers.{resetOf, requestedOf, taken, refused, initializedOf, selectedOf, replacedOf, loadedOf, keptFirst, controlledOf, heldZero, unbuiltMode, modedOf, maskedBy, writeOf, shows, unread, seenAs, byteAt, shownSpan, masksOf, readOf, seenOf};
 ghost use Rattle.dma.specs.Report.{told, nothing};
-ghost use Rattle.dma.specs.Cycle.{ready, channelAt, winner, grantedOf, firstAfter, releases, releasedOf, peekOf, pokeOf, byteOf, memoryOf, stepped, next, lastOf, stopsOf, movedOf, endsAfter, settledOf, unitOf, cycleOf};
+ghost use Rattle.dma.specs.Cycle.{ready, channelAt, winner, grantedOf, firstAfter, releases, releasedOf, peekOf, pokeOf, byteOf, memoryOf, stepped, next, lastOf, stopsOf, movedOf, endsAfter, settledOf, unitOf, cycleOf, plainOf};
 
 // Where a transfer stands, or starts: an address of 24 bits, and the units still to come, less one.
 #[repr(C)]
@@ -79,28 +79,11 @@ pub struct Got {
     pub dma: Dma,
 }
 
-impl Got {
-    // A read that is done.
-    fn shown(byte: u8, dma: Dma) -> Got
-        ensures { λ r. ⌜ r ≡ shows byte dma ⌝ }
-    {
-        Got {
-            status: 0,
-            byte: byte,
-            dma: dma,
-        }
-    }
-
-    // A read that shows nothing and changes nothing.
-    fn refused(status: u8, dma: Dma) -> Got
-        ensures { λ r. ⌜ r ≡ unread status dma ⌝ }
-    {
-        Got {
-            status: status,
-            byte: 0,
-            dma: dma,
-        }
-    }
+// The same without the chip, of which a read changes the end bits at the most: they stand here as they are after it.
+pub struct Seen {
+    pub status: u8,
+    pub byte: u8,
+    pub ends: u8,
 }
 
 // One byte moved, or verified.
@@ -238,7 +221,7 @@ impl Channel {
     }
 
     // The channel after a unit. The last one masks it, unless it autoinitializes.
-    fn advance(self, last: bool) -> Channel
+    pub fn advance(self, last: bool) -> Channel
         ensures { λ r. ⌜ r ≡ movedOf self last ⌝ }
     {
         let mut next = self;
@@ -279,7 +262,7 @@ impl Channel {
     }
 
     // Moves the byte; verify moves none and answers 0.
-    fn transfer(self, byte: u8, memory: &mut [u8]) -> u8
+    pub fn transfer(self, byte: u8, memory: &mut [u8]) -> u8
         ensures result { λ r. ⌜ r ≡ byteOf self (now (memory .entry)) byte ⌝ }
         ensures memory { λ _. ⌜ now (memory .exit) ≡ memoryOf self (now (memory .entry)) byte ⌝ }
     {
@@ -293,6 +276,32 @@ impl Channel {
         }
         0
     }
+}
+
+// Whether a cycle moves a unit of channel n, which is c, and nothing more comes of it: it is not the last, and service goes on. Most units are
+// like that, and such a one changes no other field of the chip.
+pub fn is_plain(c: Channel, serving: bool, n: u8, requests: u8, end: bool) -> bool
+    ensures { λ r. ⌜ r ≡ plainOf c serving n requests end ⌝ }
+{
+    if serving {
+        if Dma::CHANNELS <= n {
+            return false;
+        }
+        if end {
+            return false;
+        }
+        if c.current.count == 0 {
+            return false;
+        }
+        if c.mode / 64 == 1 {
+            return false;
+        }
+        if c.mode / 64 == 0 {
+            return bits::bit(requests, n);
+        }
+        return true;
+    }
+    false
 }
 
 impl Dma {
@@ -362,13 +371,21 @@ impl Dma {
         self
     }
 
-    // Channel n, all zero where there is none.
+    // Channel n, all zero where there is none. Each place is named by itself: where the place is a variable, the compiler moves the chip whole.
     fn channel_at(self, n: u8) -> Channel
         ensures { λ r. ⌜ r ≡ chan self n ⌝ }
     {
-        if n < Dma::CHANNELS {
-            let i = n as usize;
-            return self.channels[i];
+        if n == 0 {
+            return self.channels[0];
+        }
+        if n == 1 {
+            return self.channels[1];
+        }
+        if n == 2 {
+            return self.channels[2];
+        }
+        if n == 3 {
+            return self.channels[3];
         }
         let zero = Span {
             address: 0,
@@ -386,9 +403,20 @@ impl Dma {
     fn with_channel(mut self, n: u8, c: Channel) -> Dma
         ensures { λ r. ⌜ r ≡ channels-are (set (self .channels) n c) self ⌝ }
     {
-        if n < Dma::CHANNELS {
-            let i = n as usize;
-            self.channels[i] = c;
+        if n == 0 {
+            self.channels[0] = c;
+            return self;
+        }
+        if n == 1 {
+            self.channels[1] = c;
+            return self;
+        }
+        if n == 2 {
+            self.channels[2] = c;
+            return self;
+        }
+        if n == 3 {
+            self.channels[3] = c;
             return self;
         }
         self
@@ -575,52 +603,80 @@ impl Dma {
             + bits::weigh(c3.masked, 8)
     }
 
-    // Register B. Reading it clears the end bits.
-    fn show_status(self) -> Got
-        ensures { λ r. ⌜ r ≡ statusShown self ⌝ }
+    // A read that shows a byte.
+    fn show(self, byte: u8) -> Seen
+        ensures { λ r. ⌜ r ≡ seenAs (shows byte self) ⌝ }
     {
-        let mut next = self;
-        next.ends = 0;
-        Got::shown(self.requests % 16 * 16 + self.ends % 16, next)
+        Seen {
+            status: 0,
+            byte: byte,
+            ends: self.ends,
+        }
     }
 
-    // A read of the register A3-A0.
-    pub fn read(self, register: u8) -> Got
-        ensures { λ r. ⌜ r ≡ readOf self register ⌝ }
+    // A read that shows nothing and changes nothing.
+    fn hide(self, status: u8) -> Seen
+        ensures { λ r. ⌜ r ≡ seenAs (unread status self) ⌝ }
+    {
+        Seen {
+            status: status,
+            byte: 0,
+            ends: self.ends,
+        }
+    }
+
+    // A read of the register A3-A0. That of B, the status, clears the end bits.
+    pub fn look(self, register: u8) -> Seen
+        ensures { λ r. ⌜ r ≡ seenOf self register ⌝ }
     {
         let r = register % 16;
         if r == Dma::INITIALIZE {
-            return Got::refused(2, self);
+            return self.hide(2);
         }
         if r == Dma::SELECTION {
-            return Got::shown(bits::with(bits::weigh(self.base, 16), self.selected), self);
+            return self.show(bits::with(bits::weigh(self.base, 16), self.selected));
         }
         if r <= Dma::ADDRESS_HIGH {
-            return Got::shown(self.shown_span().show(r), self);
+            return self.show(self.shown_span().show(r));
         }
         // there is no register 7
         if r == 7 {
-            return Got::refused(2, self);
+            return self.hide(2);
         }
         if r == Dma::DEVICE_CONTROL {
-            return Got::shown(
-                bits::weigh(self.rotate, 16) + bits::weigh(self.disabled, 4),
-                self,
-            );
+            return self.show(bits::weigh(self.rotate, 16) + bits::weigh(self.disabled, 4));
         }
         if r == Dma::DEVICE_CONTROL_HIGH {
-            return Got::shown(0, self);
+            return self.show(0);
         }
         if r == Dma::MODE_CONTROL {
-            return Got::shown(self.channel_at(self.selected).mode, self);
+            return self.show(self.channel_at(self.selected).mode);
         }
         if r == Dma::STATUS {
-            return self.show_status();
+            return Seen {
+                status: 0,
+                byte: self.requests % 16 * 16 + self.ends % 16,
+                ends: 0,
+            };
         }
         if r < Dma::MASK {
-            return Got::refused(4, self);
+            return self.hide(4);
         }
-        Got::shown(self.masks(), self)
+        self.show(self.masks())
+    }
+
+    // The same, with the chip as it is afterwards.
+    pub fn read(self, register: u8) -> Got
+        ensures { λ r. ⌜ r ≡ readOf self register ⌝ }
+    {
+        let s = self.look(register);
+        let mut next = self;
+        next.ends = s.ends;
+        Got {
+            status: s.status,
+            byte: s.byte,
+            dma: next,
+        }
     }
 
     // Channel n asks for service and is not masked.

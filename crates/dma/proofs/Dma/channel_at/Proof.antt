@@ -9,21 +9,43 @@ use Rattle.dma.proofs.Dma.channel_at.Tie as tie
 use Rattle.dma.proofs.Dma.channel_at.Reads as reads
 use Rattle.dma.proofs.Dma.channel_at.Lts as lts
 
--- src/lib.rt:389:20
-mul-result : tie.Need-mul-result
-mul-result c = search needs
-
--- src/lib.rt:389:20
 element-copy-out-result : tie.Need-element-copy-out-result
 element-copy-out-result c = search needs
 
--- src/lib.rt:389:13
 returns : tie.Need-returns
-returns c = search needs
+returns c = rw (c .before .if1 .taken)
 
--- src/lib.rt:384:5
+element-copy-out-result-2 : tie.Need-element-copy-out-result-2
+element-copy-out-result-2 c = search needs
+
 returns-2 : tie.Need-returns-2
-returns-2 c = let four = unmapped (c .before .args .t1 .channels) _ 4 (c .before .good .0 .1 .1 .0 .1 .0 .1) in sym (List·getD-eq-default (c .before .args .t1 .channels) none (omega arith))
+returns-2 c = rw (c .before .if2 .taken)
+
+element-copy-out-result-3 : tie.Need-element-copy-out-result-3
+element-copy-out-result-3 c = search needs
+
+returns-3 : tie.Need-returns-3
+returns-3 c = rw (c .before .if3 .taken)
+
+element-copy-out-result-4 : tie.Need-element-copy-out-result-4
+element-copy-out-result-4 c = search needs
+
+returns-4 : tie.Need-returns-4
+returns-4 c = rw (c .before .if4 .taken)
+
+returns-5 : tie.Need-returns-5
+returns-5 c = let four = unmapped (c .before .before .before .before .args .t1 .channels) _ 4 (c .before .before .before .before .good .0 .1 .1 .0 .1 .0 .1) in sym (List·getD-eq-default (c .before .before .before .before .args .t1 .channels) none (omega arith))
 
 pub channel-at-spec : {M : Type 1} → statement M
-channel-at-spec = tie.close (tie.spec mul-result element-copy-out-result returns returns-2)
+channel-at-spec =
+    tie.close
+    (tie.spec
+    element-copy-out-result
+    returns
+    element-copy-out-result-2
+    returns-2
+    element-copy-out-result-3
+    returns-3
+    element-copy-out-result-4
+    returns-4
+    returns-5)

@@ -7,21 +7,43 @@ use Rattle.dma.proofs.Dma.with_channel.Tie as tie
 use Rattle.dma.proofs.Dma.with_channel.Reads as reads
 use Rattle.dma.proofs.Dma.with_channel.Lts as lts
 
--- src/lib.rt:409:13
-mul-c : tie.Need-mul-c
-mul-c c = search needs
-
--- src/lib.rt:409:13
 element-set-from-c : tie.Need-element-set-from-c
 element-set-from-c c = search needs
 
--- src/lib.rt:410:13
 returns : tie.Need-returns
-returns c = search needs
+returns c = rw (c .if1 .taken)
 
--- src/lib.rt:404:5
+element-set-from-c-2 : tie.Need-element-set-from-c-2
+element-set-from-c-2 c = search needs
+
 returns-2 : tie.Need-returns-2
-returns-2 c = let four = unmapped (c .before .args .t1 .channels) _ 4 (c .before .good .0 .1 .1 .0 .1 .0 .1) in rw (set-out (c .before .args .t1 .channels) (c .before .args .n) (c .before .args .c) (omega arith))
+returns-2 c = rw (c .if2 .taken)
+
+element-set-from-c-3 : tie.Need-element-set-from-c-3
+element-set-from-c-3 c = search needs
+
+returns-3 : tie.Need-returns-3
+returns-3 c = rw (c .if3 .taken)
+
+element-set-from-c-4 : tie.Need-element-set-from-c-4
+element-set-from-c-4 c = search needs
+
+returns-4 : tie.Need-returns-4
+returns-4 c = rw (c .if4 .taken)
+
+returns-5 : tie.Need-returns-5
+returns-5 c = let four = unmapped (c .before .before .before .before .args .t1 .channels) _ 4 (c .before .before .before .before .good .0 .1 .1 .0 .1 .0 .1) in rw (set-out (c .before .before .before .before .args .t1 .channels) (c .before .before .before .before .args .n) (c .before .before .before .before .args .c) (omega arith))
 
 pub with-channel-spec : {M : Type 1} → statement M
-with-channel-spec = tie.close (tie.spec mul-c element-set-from-c returns returns-2)
+with-channel-spec =
+    tie.close
+    (tie.spec
+    element-set-from-c
+    returns
+    element-set-from-c-2
+    returns-2
+    element-set-from-c-3
+    returns-3
+    element-set-from-c-4
+    returns-4
+    returns-5)
