@@ -7,6 +7,7 @@ use Rattle.timer.specs.Fields.{mode-is, format-is, count-is, full-is, pe
 use Rattle.timer.specs.declared.Counter.{Counter}
 use Rattle.timer.specs.declared.Wrote.{Wrote}
 use Rattle.timer.specs.declared.Wrote.the-variants.{Taken, Unset, Unbuilt, One}
+use Rattle.timer.specs.declared.Seen.{Seen}
 use Rattle.timer.specs.declared.Shown.{Shown}
 use Rattle.timer.specs.declared.Shown.the-variants.{Byte, Modeless}
 
@@ -142,3 +143,10 @@ readOf c =
     else if c .second then read-as (held c / 256) (second-is false (latched-is false c))
     else read-as (held c % 256) (second-is true c))
     else refused 3 c
+
+-- A read by what it shows, with the latch and the reading place after it. It changes nothing else of the counter.
+abbrev pub seenAs : Answer → Seen
+seenAs a = record { status = a .status; byte = a .byte; latched = a .counter .latched; second = a .counter .second }
+
+unfoldable pub seenOf : Counter → Seen
+seenOf c = seenAs (readOf c)

@@ -1,7 +1,7 @@
 // The 71054: three counters on one clock. Modes 0 and 2, binary; the multiple latch, BCD and the other modes are not built.
 ghost use mathlib.Core.Path.{_≡_};
 ghost use Prim.Native.Nat.{_≤_, _<_};
-ghost use Rattle.timer.specs.Ports.{resetOf, toldWrote, toldShown, moded, modeSet, modeWord, latchWord, controlOf, completed, countOf, begun, writeOf, held, readOf};
+ghost use Rattle.timer.specs.Ports.{resetOf, toldWrote, toldShown, moded, modeSet, modeWord, latchWord, controlOf, completed, countOf, begun, writeOf, held, readOf, seenOf};
 ghost use Rattle.timer.specs.Pulse.{transferred, pulse0, pulse2, pulseOf, gateOf};
 ghost use Rattle.timer.specs.Timer.{at, resetsOf, wroteBy, gotBy, controlsOf, writesOf, readsOf, pulsesOf, gatesOf, outsOf};
 
@@ -48,6 +48,14 @@ pub enum Wrote {
 pub enum Shown {
     Byte(u8, Counter),
     Modeless,
+}
+
+// What a read of a counter answers: the status, the byte, and the two fields that it may change as they are after it.
+pub struct Seen {
+    pub status: u8,
+    pub byte: u8,
+    pub latched: bool,
+    pub second: bool,
 }
 
 #[repr(C)]
@@ -247,26 +255,59 @@ impl Counter {
     }
 
     // A count byte read. Its place is not the writer's.
-    pub fn read(mut self) -> Shown
-        ensures { λ r. ⌜ toldShown self r ≡ readOf self ⌝ }
+    pub fn look(self) -> Seen
+        ensures { λ r. ⌜ r ≡ seenOf self ⌝ }
     {
         if self.is_moded() {
             let v = self.shown();
             if self.format == Counter::LOW {
-                self.latched = false;
-                return Shown::Byte((v % 256) as u8, self);
+                return Seen {
+                    status: 0,
+                    byte: (v % 256) as u8,
+                    latched: false,
+                    second: self.second,
+                };
             }
             if self.format == Counter::HIGH {
-                self.latched = false;
-                return Shown::Byte((v / 256) as u8, self);
+                return Seen {
+                    status: 0,
+                    byte: (v / 256) as u8,
+                    latched: false,
+                    second: self.second,
+                };
             }
             if self.second {
-                self.second = false;
-                self.latched = false;
-                return Shown::Byte((v / 256) as u8, self);
+                return Seen {
+                    status: 0,
+                    byte: (v / 256) as u8,
+                    latched: false,
+                    second: false,
+                };
             }
-            self.second = true;
-            return Shown::Byte((v % 256) as u8, self);
+            return Seen {
+                status: 0,
+                byte: (v % 256) as u8,
+                latched: self.latched,
+                second: true,
+            };
+        }
+        Seen {
+            status: 3,
+            byte: 0,
+            latched: self.latched,
+            second: self.second,
+        }
+    }
+
+    // The same, with the counter as it is afterwards.
+    pub fn read(mut self) -> Shown
+        ensures { λ r. ⌜ toldShown self r ≡ readOf self ⌝ }
+    {
+        let s = self.look();
+        if s.status == 0 {
+            self.latched = s.latched;
+            self.second = s.second;
+            return Shown::Byte(s.byte, self);
         }
         Shown::Modeless
     }
