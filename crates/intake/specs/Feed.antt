@@ -12,30 +12,7 @@ use Rattle.intake.specs.declared.Fed.{Fed}
 use Rattle.intake.specs.Ranges.{inRange}
 use Rattle.intake.specs.Records.{recordAt, restAt}
 
--- Where a run stands: the board, the memory, and the answers so far.
-pub record Run : Type 0 where
-  pub board : Board
-  pub memory : List ℕ
-  pub answers : List ℕ
-
--- One record more.
-abbrev pub next : Run → List ℕ → Run
-next s r =
-    record {
-      board = stepOf (s .board) r (s .memory) .board;
-      memory = stepMemory (s .board) r (s .memory);
-      answers = s .answers ++ stepOf (s .board) r (s .memory) .answer;
-    }
-
--- The first n records of the bytes s, one after another.
-unfoldable pub after : Board → List ℕ → List ℕ → ℕ → Run
-after b m s zero = record { board = b; memory = m; answers = [] }
-after b m s (suc n) = next (after b m s n) (recordAt s n)
-
--- The bytes of a call: those kept from the last one, then the tape. They make k whole records.
-abbrev pub bytesOf : Board → List ℕ → List ℕ
-bytesOf b t = take (b .kept .length) (b .kept .bytes) ++ t
-
+-- The bytes of a call make k whole records.
 abbrev pub countOf : Board → List ℕ → ℕ
 countOf b t = (b .kept .length + length t) / 8
 

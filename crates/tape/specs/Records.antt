@@ -10,6 +10,10 @@ use Rattle.tape.specs.declared.Operation.the-variants.{Reset, Write, Rea
 use Rattle.tape.specs.declared.Decoded.{Decoded}
 use Rattle.tape.specs.declared.Decoded.the-variants.{Asked, Malformed}
 
+-- The bytes of a cut record wait for the next call. There is room for seven of them, whatever their length is said to be.
+abbrev pub heldOf : ℕ → ℕ
+heldOf n = if ltb 7 n then 7 else n
+
 -- Byte i of a record.
 abbrev pub byte : List ℕ → ℕ → ℕ
 byte r i = getD r i 0

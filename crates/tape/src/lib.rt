@@ -1,7 +1,9 @@
 // The tape's records of 8 bytes, read as operations, and the answers of 16 bytes.
 ghost use mathlib.Core.Path.{_≡_};
-ghost use Prim.Native.Nat.{_<_};
-ghost use Rattle.tape.specs.Records.{unused, writable, readable, pulseCount, linesAsked, laterAsked, decodeOf, usesBus};
+ghost use mathlib.Core.List.{_++_};
+ghost use Prim.Native.Nat.{_<_, _≤_};
+ghost use lib.ListN.{take, getD};
+ghost use Rattle.tape.specs.Records.{heldOf, unused, writable, readable, pulseCount, linesAsked, laterAsked, decodeOf, usesBus};
 ghost use Rattle.tape.specs.Answers.{twelve, littleOf, answerOf};
 
 // What a record asks for. Lines come by group: INTP, gates, DMA requests.
@@ -37,6 +39,32 @@ fn wide(x: u8) -> u32
     ensures { λ r. ⌜ r < 256 ⌝ }
 {
     x as u32
+}
+
+// How many bytes of a cut record are kept; there is room for seven, whatever the length says.
+pub fn held(length: u8) -> usize
+    ensures { λ r. ⌜ r ≡ heldOf length ⌝ }
+    ensures { λ r. ⌜ r ≤ 7 ⌝ }
+{
+    if 7 < length {
+        return 7;
+    }
+    length as usize
+}
+
+// Byte j of the kept bytes with the tape after them, 0 past the end.
+pub fn byte_at(kept: [u8; 7], length: u8, tape: &[u8], j: usize) -> u8
+    ensures { λ r. ⌜ r ≡ getD (take length kept ++ now (tape .entry)) j 0 ⌝ }
+{
+    let n = held(length);
+    if j < n {
+        return kept[j];
+    }
+    let t = j - n;
+    if t < tape.len() {
+        return tape[t];
+    }
+    0
 }
 
 // Bytes 3 to 7 are zero.

@@ -1,0 +1,49 @@
+-- The records that a run of bytes makes, one after another.
+use Prim.Native.Nat.{ℕ, zero, suc, _+_, _*_, _/_}
+use mathlib.Core.List.{List, [], _∷_, _++_}
+use lib.Dec.{ltb}
+use lib.ListN.{length, take, getD}
+use Rattle.bits.specs.Choice.{if_then_else_}
+use Rattle.board.specs.declared.Board.{Board}
+use Rattle.board.specs.Step.{stepOf, stepMemory}
+
+-- Record i: the eight bytes from 8 i on.
+unfoldable pub recordAt : List ℕ → ℕ → List ℕ
+recordAt s i =
+    getD s (8 * i) 0
+    ∷ getD s (8 * i + 1) 0
+    ∷ getD s (8 * i + 2) 0
+    ∷ getD s (8 * i + 3) 0
+    ∷ getD s (8 * i + 4) 0
+    ∷ getD s (8 * i + 5) 0
+    ∷ getD s (8 * i + 6) 0
+    ∷ getD s (8 * i + 7) 0
+    ∷ []
+
+-- Where a run stands: the board, the memory, and the answers so far.
+pub record Run : Type 0 where
+  pub board : Board
+  pub memory : List ℕ
+  pub answers : List ℕ
+
+-- One record more.
+abbrev pub next : Run → List ℕ → Run
+next s r =
+    record {
+      board = stepOf (s .board) r (s .memory) .board;
+      memory = stepMemory (s .board) r (s .memory);
+      answers = s .answers ++ stepOf (s .board) r (s .memory) .answer;
+    }
+
+-- The first n records of the bytes s, one after another.
+unfoldable pub after : Board → List ℕ → List ℕ → ℕ → Run
+after b m s zero = record { board = b; memory = m; answers = [] }
+after b m s (suc n) = next (after b m s n) (recordAt s n)
+
+-- The bytes of a call: those kept from the last one, then the tape.
+abbrev pub bytesOf : Board → List ℕ → List ℕ
+bytesOf b t = take (b .kept .length) (b .kept .bytes) ++ t
+
+-- A call runs the whole records of its bytes, as many as its answer buffer has room for.
+abbrev pub fitting : Board → List ℕ → ℕ → ℕ
+fitting b t room = if ltb (room / 16) (length (bytesOf b t) / 8) then room / 16 else length (bytesOf b t) / 8
