@@ -10,7 +10,7 @@ use Rattle.icu.specs.Requests.{linesOf}
 use Rattle.timer.specs.declared.Timer.{Timer}
 use Rattle.timer.specs.Timer.{at, pulsesOf}
 use Rattle.board.specs.declared.Board.{Board}
-use Rattle.board.specs.declared.Outcome.{Outcome}
+use Rattle.board.specs.Operations.{Outcome}
 use Rattle.board.specs.declared.Run.{Run}
 use Rattle.board.specs.Wiring.{linesAt}
 

@@ -2,3 +2,4 @@ pub mod Wiring
 pub mod Operations
 pub mod Advance
 pub mod Step
+pub mod Records

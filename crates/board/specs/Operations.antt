@@ -15,8 +15,15 @@ use Rattle.dma.specs.Registers as DmaRegisters
 use Rattle.dma.specs.Cycle as DmaCycle
 use Rattle.dma.specs.Report.{Told}
 use Rattle.board.specs.declared.Board.{Board}
-use Rattle.board.specs.declared.Outcome.{Outcome}
+use Rattle.board.specs.declared.Turn.{Turn}
 use Rattle.board.specs.Wiring.{icu-is, timer-is, dma-is, lines, rewired}
+
+-- What an operation comes to: its status, the board afterwards, and the data and payload of its answer.
+pub record Outcome : Type 0 where
+  pub status : ℕ
+  pub board : Board
+  pub byte : ℕ
+  pub payload : List ℕ
 
 -- Done; done with a data byte; refused by number, which leaves the board as it was, with no data and no payload.
 abbrev pub telling : Board → ℕ → Outcome
@@ -32,6 +39,10 @@ refused n b = record { status = n; board = b; byte = 0; payload = twelve [] }
 abbrev pub icuTold : Board → IcuAnswers.Told → Outcome
 icuTold b t =
     record { status = t .status; board = icu-is (t .icu) b; byte = t .byte; payload = twelve (t .payload) }
+
+-- The same without the board.
+abbrev pub turnOf : IcuAnswers.Told → Turn
+turnOf t = record { icu = t .icu; status = t .status; byte = t .byte; payload = twelve (t .payload) }
 
 abbrev pub icuWritten : Board → Bool → ℕ → IcuAnswers.Told
 icuWritten b a0 x = IcuWords.writeOf (b .icu) a0 x

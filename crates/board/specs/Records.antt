@@ -1,5 +1,5 @@
 -- The records that a run of bytes makes, one after another.
-use Prim.Native.Nat.{ℕ, zero, suc, _+_, _*_, _/_}
+use Prim.Native.Nat.{ℕ, zero, suc, _+_, _*_, _/_, _%_}
 use mathlib.Core.List.{List, [], _∷_, _++_}
 use lib.Dec.{ltb}
 use lib.ListN.{length, take, getD}
@@ -47,3 +47,28 @@ bytesOf b t = take (b .kept .length) (b .kept .bytes) ++ t
 -- A call runs the whole records of its bytes, as many as its answer buffer has room for.
 abbrev pub fitting : Board → List ℕ → ℕ → ℕ
 fitting b t room = if ltb (room / 16) (length (bytesOf b t) / 8) then room / 16 else length (bytesOf b t) / 8
+
+-- The eight bytes from a place on, and those of a number, little end first: a program holds a record in one number.
+unfoldable pub eightFrom : List ℕ → ℕ → List ℕ
+eightFrom s a =
+    getD s a 0
+    ∷ getD s (a + 1) 0
+    ∷ getD s (a + 2) 0
+    ∷ getD s (a + 3) 0
+    ∷ getD s (a + 4) 0
+    ∷ getD s (a + 5) 0
+    ∷ getD s (a + 6) 0
+    ∷ getD s (a + 7) 0
+    ∷ []
+
+unfoldable pub digitsOf : ℕ → List ℕ
+digitsOf w =
+    w % 256
+    ∷ w / 256 % 256
+    ∷ w / 65536 % 256
+    ∷ w / 16777216 % 256
+    ∷ w / 4294967296 % 256
+    ∷ w / 1099511627776 % 256
+    ∷ w / 281474976710656 % 256
+    ∷ w / 72057594037927936 % 256
+    ∷ []

@@ -12,10 +12,9 @@ use Rattle.tape.specs.Answers.{answerOf}
 use Rattle.timer.specs.Timer.{gatesOf}
 use Rattle.dma.specs.Registers.{requestedOf}
 use Rattle.board.specs.declared.Board.{Board}
-use Rattle.board.specs.declared.Outcome.{Outcome}
 use Rattle.board.specs.declared.Stepped.{Stepped}
 use Rattle.board.specs.Wiring.{dma-is, resetOf, rewired, levelsOf}
-use Rattle.board.specs.Operations.{done, refused, icuTold, acknowledged, writeOf, readOf, cycleOf, cycleMemory}
+use Rattle.board.specs.Operations.{Outcome, done, refused, icuTold, acknowledged, writeOf, readOf, cycleOf, cycleMemory}
 use Rattle.board.specs.Advance.{advanceOf}
 
 -- An operation that is carried out. Lines that change do so all at once.

@@ -13,6 +13,7 @@ use Rattle.dma.specs.declared.Dma.{Dma}
 use Rattle.dma.specs.Registers as DmaRegisters
 use Rattle.board.specs.declared.Kept.{Kept}
 use Rattle.board.specs.declared.Board.{Board}
+use Rattle.board.specs.declared.Wired.{Wired}
 
 -- A board with another interrupt chip, another timer, another DMA chip.
 abbrev pub icu-is : Icu → Board → Board
@@ -55,3 +56,12 @@ levelsOf b = if int b then outsOf (b .timer) + 8 else outsOf (b .timer)
 unfoldable pub rewired : ℕ → Timer → Board → Board
 rewired intp t b =
     record { icu = linesOf (b .icu) (lines b) (linesAt intp t); intp = intp; timer = t; dma = b .dma; kept = b .kept }
+
+-- The levels by what they are worked out from. The DMA chip and the kept bytes have no part in them, so a fresh board's stand there.
+abbrev pub levelsAt : Icu → ℕ → Timer → ℕ
+levelsAt c intp t = levelsOf (record { icu = c; intp = intp; timer = t; dma = DmaRegisters.resetOf; kept = nothingKept })
+
+-- The same change of lines without the board: the interrupt chip after it, and the levels.
+abbrev pub wiredTo : Icu → ℕ → ℕ → Timer → Wired
+wiredTo c was intp t =
+    record { icu = linesOf c was (linesAt intp t); levels = levelsAt (linesOf c was (linesAt intp t)) intp t }

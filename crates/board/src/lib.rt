@@ -1,14 +1,24 @@
 // The board: the three chips and their wiring, and what each record of a tape does to them.
 ghost use mathlib.Core.Path.{_≡_};
 ghost use mathlib.Core.Bool.{Bool};
-ghost use Prim.Native.Nat.{_≤_};
+ghost use mathlib.Core.List.{_++_, _∷_, []};
+ghost use Prim.Native.Nat.{_+_, _*_, _≤_, _<_};
+ghost use lib.ListN.{length, take, drop};
+ghost use lib.Dec.{ltb};
+ghost use lib.Seq.{paste};
+ghost use Rattle.bits.specs.Choice.{if_then_else_, _and_};
 ghost use Rattle.icu.specs.declared.Icu.{Icu};
-ghost use Rattle.tape.specs.Answers.{twelve};
+ghost use Rattle.icu.specs.Words as IcuWords;
+ghost use Rattle.icu.specs.Service as IcuService;
+ghost use Rattle.icu.specs.Requests.{linesOf};
+ghost use Rattle.tape.specs.Records.{heldOf, usesBus};
+ghost use Rattle.tape.specs.Answers.{twelve, littleOf, answerOf};
 ghost use Rattle.dma.specs.Report.{told};
-ghost use Rattle.board.specs.Wiring.{linesAt, levelsOf, rewired, freshOf};
-ghost use Rattle.board.specs.Operations.{done, refused, telling, icuTold, icuWritten, icuShown, acknowledged, timerWritten, timerShown, dmaWritten, dmaShown, writeOf, readOf, flagOf, payloadOf, cycleOf, cycleMemory};
-ghost use Rattle.board.specs.Advance.{riseOf, tickOf, advancedOf, risesPayload, advanceOf, Few};
-ghost use Rattle.board.specs.Step.{executeOf, memoryAfter, blocked, answeredOf, stepOf, stepMemory};
+ghost use Rattle.board.specs.Wiring.{linesAt, levelsOf, freshOf, levelsAt, wiredTo};
+ghost use Rattle.board.specs.Operations.{turnOf, flagOf, payloadOf};
+ghost use Rattle.board.specs.Advance.{riseOf, tickOf, advancedOf, risesPayload, Few};
+ghost use Rattle.board.specs.Step.{stepOf, stepMemory};
+ghost use Rattle.board.specs.Records.{recordAt, eightFrom, digitsOf, after, bytesOf, fitting};
 use dma::Dma;
 use dma::Report;
 use icu::Acknowledged;
@@ -36,12 +46,18 @@ pub struct Board {
     pub kept: Kept,
 }
 
-// What an operation comes to: its status, the board afterwards, and the data and payload of its answer.
-pub struct Outcome {
+// What the interrupt chip does in its turn: the chip afterwards, and the status, data and payload of its answer.
+pub struct Turn {
+    pub icu: Icu,
     pub status: u8,
-    pub board: Board,
     pub byte: u8,
     pub payload: [u8; 12],
+}
+
+// The interrupt chip once its lines have changed, and the levels that an answer then shows.
+pub struct Wired {
+    pub icu: Icu,
+    pub levels: u8,
 }
 
 pub struct Stepped {
@@ -134,6 +150,16 @@ fn flag(k: bool) -> u8
     0
 }
 
+// A unit as payload.
+fn moved_payload(channel: u8, end: bool, stopped: bool, address: u32) -> [u8; 12]
+    ensures { λ r. ⌜ r ≡ twelve (2 ∷ channel ∷ flagOf end ∷ flagOf stopped ∷ littleOf address) ⌝ }
+{
+    let a = tape::little(address);
+    let e = flag(end);
+    let s = flag(stopped);
+    [2, channel, e, s, a[0], a[1], a[2], a[3], 0, 0, 0, 0]
+}
+
 // A cycle's report as payload.
 fn payload(report: Report) -> [u8; 12]
     ensures { λ r. ⌜ r ≡ twelve (payloadOf (told report)) ⌝ }
@@ -146,23 +172,7 @@ fn payload(report: Report) -> [u8; 12]
             return [1, n, 0, 0, 0, 0, 0, 0, 0, 0, 0, 0];
         }
         Report::Moved(u) => {
-            let a = tape::little(u.address);
-            let end = flag(u.end);
-            let stopped = flag(u.stopped);
-            return [
-                2,
-                u.channel,
-                end,
-                stopped,
-                a[0],
-                a[1],
-                a[2],
-                a[3],
-                0,
-                0,
-                0,
-                0,
-            ];
+            return moved_payload(u.channel, u.end, u.stopped, u.address);
         }
         Report::Released(n) => {
             return [3, n, 0, 1, 0, 0, 0, 0, 0, 0, 0, 0];
@@ -205,6 +215,249 @@ fn rises_payload(rises: [u32; 3]) -> [u8; 12]
     ]
 }
 
+// The levels of an answer: OUT0 to OUT2, and INT.
+fn levels_at(icu: Icu, intp: u8, timer: Timer) -> u8
+    ensures { λ r. ⌜ r ≡ levelsAt icu intp timer ⌝ }
+{
+    let outs = timer.outs();
+    if icu.int(lines_at(intp, timer)) {
+        return outs + 8;
+    }
+    outs
+}
+
+// Other INTP levels or another timer: what changed of the eight lines reaches the interrupt chip.
+fn rewire(icu: Icu, intp: u8, timer: Timer, new_intp: u8, new_timer: Timer) -> Wired
+    ensures { λ r. ⌜ r ≡ wiredTo icu (linesAt intp timer) «new_intp» «new_timer» ⌝ }
+{
+    let was = lines_at(intp, timer);
+    let now = lines_at(new_intp, new_timer);
+    let next = icu.lines(was, now);
+    Wired {
+        icu: next,
+        levels: levels_at(next, new_intp, new_timer),
+    }
+}
+
+fn write_icu(icu: Icu, a0: bool, x: u8) -> Turn
+    ensures { λ r. ⌜ r ≡ turnOf (IcuWords.writeOf icu a0 x) ⌝ }
+{
+    let w = icu.write(a0, x);
+    match w {
+        Written::Taken(c) => {
+            return Turn {
+                icu: c,
+                status: 0,
+                byte: 0,
+                payload: [0u8; 12],
+            };
+        }
+        Written::OutOfTurn => {
+            return Turn {
+                icu: icu,
+                status: 3,
+                byte: 0,
+                payload: [0u8; 12],
+            };
+        }
+        Written::NotBuilt => {
+            return Turn {
+                icu: icu,
+                status: 4,
+                byte: 0,
+                payload: [0u8; 12],
+            };
+        }
+    }
+}
+
+fn read_icu(icu: Icu, a0: bool, lines: u8) -> Turn
+    ensures { λ r. ⌜ r ≡ turnOf (IcuService.readOf icu a0 lines) ⌝ }
+{
+    let g = icu.read(a0, lines);
+    match g {
+        Got::Shown(x) => {
+            return Turn {
+                icu: icu,
+                status: 0,
+                byte: x,
+                payload: [0u8; 12],
+            };
+        }
+        Got::NotReady => {
+            return Turn {
+                icu: icu,
+                status: 3,
+                byte: 0,
+                payload: [0u8; 12],
+            };
+        }
+    }
+}
+
+fn acknowledge(icu: Icu, lines: u8) -> Turn
+    ensures { λ r. ⌜ r ≡ turnOf (IcuService.acknowledgeOf icu lines) ⌝ }
+{
+    let a = icu.acknowledge(lines);
+    match a {
+        Acknowledged::Vector(c, x) => {
+            return Turn {
+                icu: c,
+                status: 0,
+                byte: x,
+                payload: [0u8; 12],
+            };
+        }
+        Acknowledged::Call(c, low, high) => {
+            return Turn {
+                icu: c,
+                status: 0,
+                byte: 0,
+                payload: [0xcd, low, high, 0, 0, 0, 0, 0, 0, 0, 0, 0],
+            };
+        }
+        Acknowledged::Unready => {
+            return Turn {
+                icu: icu,
+                status: 3,
+                byte: 0,
+                payload: [0u8; 12],
+            };
+        }
+        Acknowledged::IntLow => {
+            return Turn {
+                icu: icu,
+                status: 5,
+                byte: 0,
+                payload: [0u8; 12],
+            };
+        }
+    }
+}
+
+// Whether a served DMA channel keeps the processor off the bus.
+fn is_blocked(serving: bool, o: Operation) -> bool
+    ensures { λ r. ⌜ r ≡ serving and usesBus o ⌝ }
+{
+    if serving {
+        return o.uses_bus();
+    }
+    false
+}
+
+// The lesser of two numbers.
+fn least(a: usize, b: usize) -> usize
+    ensures { λ r. ⌜ r ≡ (if ltb b a then b else a) ⌝ }
+{
+    if b < a {
+        return b;
+    }
+    a
+}
+
+fn wide(x: u8) -> u64
+    ensures { λ r. ⌜ r ≡ x ⌝ }
+    ensures { λ r. ⌜ r < 256 ⌝ }
+{
+    x as u64
+}
+
+// Eight bytes as one number, little end first: a record goes through the loop as one number and not as eight.
+fn pack(b0: u8, b1: u8, b2: u8, b3: u8, b4: u8, b5: u8, b6: u8, b7: u8) -> u64
+    ensures { λ r. ⌜ digitsOf r ≡ b0 ∷ b1 ∷ b2 ∷ b3 ∷ b4 ∷ b5 ∷ b6 ∷ b7 ∷ [] ⌝ }
+{
+    wide(b0)
+        + wide(b1) * 256
+        + wide(b2) * 65536
+        + wide(b3) * 16777216
+        + wide(b4) * 4294967296
+        + wide(b5) * 1099511627776
+        + wide(b6) * 281474976710656
+        + wide(b7) * 72057594037927936
+}
+
+// The first record, where bytes of it were kept.
+fn kept_word(kept: [u8; 7], size: u8, tape: &[u8]) -> u64
+    ensures { λ r. ⌜ digitsOf r ≡ recordAt (take size kept ++ now (tape .entry)) 0 ⌝ }
+{
+    let b0 = tape::byte_at(kept, size, tape, 0);
+    let b1 = tape::byte_at(kept, size, tape, 1);
+    let b2 = tape::byte_at(kept, size, tape, 2);
+    let b3 = tape::byte_at(kept, size, tape, 3);
+    let b4 = tape::byte_at(kept, size, tape, 4);
+    let b5 = tape::byte_at(kept, size, tape, 5);
+    let b6 = tape::byte_at(kept, size, tape, 6);
+    let b7 = tape::byte_at(kept, size, tape, 7);
+    pack(b0, b1, b2, b3, b4, b5, b6, b7)
+}
+
+// The eight bytes of the tape from a place on.
+fn tape_word(tape: &[u8], at: usize) -> u64
+    requires { ⌜ at + 8 ≤ length (now tape) ⌝ }
+    ensures { λ r. ⌜ digitsOf r ≡ eightFrom (now (tape .entry)) at ⌝ }
+{
+    pack(
+        tape[at],
+        tape[at + 1],
+        tape[at + 2],
+        tape[at + 3],
+        tape[at + 4],
+        tape[at + 5],
+        tape[at + 6],
+        tape[at + 7],
+    )
+}
+
+// Record i of the kept bytes with the tape after them, as a number.
+fn word_at(kept: [u8; 7], size: u8, tape: &[u8], i: usize) -> u64
+    requires { ⌜ 8 * i + 8 ≤ heldOf size + length (now tape) ⌝ }
+    ensures { λ r. ⌜ digitsOf r ≡ recordAt (take size kept ++ now (tape .entry)) i ⌝ }
+{
+    let held = tape::held(size);
+    if held <= 8 * i {
+        return tape_word(tape, 8 * i - held);
+    }
+    kept_word(kept, size, tape)
+}
+
+fn record_at(kept: [u8; 7], size: u8, tape: &[u8], i: usize) -> [u8; 8]
+    requires { ⌜ 8 * i + 8 ≤ heldOf size + length (now tape) ⌝ }
+    ensures { λ r. ⌜ r ≡ recordAt (take size kept ++ now (tape .entry)) i ⌝ }
+{
+    let w = word_at(kept, size, tape, i);
+    [
+        (w % 256) as u8,
+        (w / 256 % 256) as u8,
+        (w / 65536 % 256) as u8,
+        (w / 16777216 % 256) as u8,
+        (w / 4294967296 % 256) as u8,
+        (w / 1099511627776 % 256) as u8,
+        (w / 281474976710656 % 256) as u8,
+        (w / 72057594037927936 % 256) as u8,
+    ]
+}
+
+// An answer, put into the buffer.
+fn put(to: &mut [u8], at: usize, a: [u8; 16])
+    requires { ⌜ at + 16 ≤ length (now to) ⌝ }
+    ensures { λ _. ⌜ now (to .exit) ≡ paste (now (to .entry)) at a 16 ⌝ }
+{
+    let mut j = 0;
+    while j < 16 {
+        to[at + j] = a[j];
+        j += 1;
+    }
+}
+
+// The answer of record i.
+fn tell(to: &mut [u8], i: usize, status: u8, op: u8, byte: u8, levels: u8, payload: [u8; 12])
+    requires { ⌜ 16 * i + 16 ≤ length (now to) ⌝ }
+    ensures { λ _. ⌜ now (to .exit) ≡ paste (now (to .entry)) (16 * i) (answerOf status op byte levels payload) 16 ⌝ }
+{
+    let a = tape::answer(status, op, byte, levels, payload);
+    put(to, 16 * i, a);
+}
+
 impl Board {
     // Every chip at its reset, every line low but the gates, no bytes kept.
     pub fn reset() -> Board
@@ -226,332 +479,219 @@ impl Board {
     pub fn levels(self) -> u8
         ensures { λ r. ⌜ r ≡ levelsOf self ⌝ }
     {
-        let t = self.timer;
         let i = self.icu;
-        let outs = t.outs();
-        if i.int(lines_at(self.intp, t)) {
-            return outs + 8;
-        }
-        outs
-    }
-
-    // Other INTP levels or another timer: what changed of the eight lines reaches the interrupt chip.
-    fn rewire(self, intp: u8, timer: Timer) -> Board
-        ensures { λ r. ⌜ r ≡ rewired intp timer self ⌝ }
-    {
-        let before = self.timer;
-        let was = lines_at(self.intp, before);
-        let now = lines_at(intp, timer);
-        let i = self.icu;
-        let icu = i.lines(was, now);
-        let mut next = self;
-        next.icu = icu;
-        next.intp = intp;
-        next.timer = timer;
-        next
-    }
-
-    fn complete(self) -> Outcome
-        ensures { λ r. ⌜ r ≡ done self ⌝ }
-    {
-        Outcome {
-            status: 0,
-            board: self,
-            byte: 0,
-            payload: [0u8; 12],
-        }
-    }
-
-    fn refuse(self, status: u8) -> Outcome
-        ensures { λ r. ⌜ r ≡ refused status self ⌝ }
-    {
-        Outcome {
-            status: status,
-            board: self,
-            byte: 0,
-            payload: [0u8; 12],
-        }
-    }
-
-    fn tell(self, byte: u8) -> Outcome
-        ensures { λ r. ⌜ r ≡ telling self byte ⌝ }
-    {
-        Outcome {
-            status: 0,
-            board: self,
-            byte: byte,
-            payload: [0u8; 12],
-        }
-    }
-
-    fn write_icu(self, a0: bool, x: u8) -> Outcome
-        ensures { λ r. ⌜ r ≡ icuTold self (icuWritten self a0 x) ⌝ }
-    {
-        let i = self.icu;
-        let w = i.write(a0, x);
-        match w {
-            Written::Taken(c) => {
-                let mut next = self;
-                next.icu = c;
-                return next.complete();
-            }
-            Written::OutOfTurn => {
-                return self.refuse(3);
-            }
-            Written::NotBuilt => {
-                return self.refuse(4);
-            }
-        }
-    }
-
-    // A refused write leaves the timer, and so the lines, as they were.
-    fn write_timer(self, a: u8, x: u8) -> Outcome
-        ensures { λ r. ⌜ r ≡ timerWritten self a x ⌝ }
-    {
         let t = self.timer;
-        let w = t.write(a, x);
-        if w.status == 0 {
-            let after = w.timer;
-            return self.rewire(self.intp, after).complete();
-        }
-        self.refuse(w.status)
+        levels_at(i, self.intp, t)
     }
 
-    fn write_dma(self, register: u8, x: u8) -> Outcome
-        ensures { λ r. ⌜ r ≡ dmaWritten self register x ⌝ }
-    {
-        let d = self.dma;
-        let w = d.write(register, x);
-        if w.status == 0 {
-            let after = w.dma;
-            let mut next = self;
-            next.dma = after;
-            return next.complete();
-        }
-        self.refuse(w.status)
-    }
-
-    // A write goes to the chip that the port's high digit names.
-    fn write(self, port: u8, x: u8) -> Outcome
-        ensures { λ r. ⌜ r ≡ writeOf self port x ⌝ }
-    {
-        let chip = port / 16;
-        if chip == 0 {
-            return self.write_icu(port % 2 == 1, x);
-        }
-        if chip == 1 {
-            return self.write_timer(port, x);
-        }
-        self.write_dma(port, x)
-    }
-
-    fn read_icu(self, a0: bool) -> Outcome
-        ensures { λ r. ⌜ r ≡ icuTold self (icuShown self a0) ⌝ }
-    {
-        let t = self.timer;
-        let i = self.icu;
-        let g = i.read(a0, lines_at(self.intp, t));
-        match g {
-            Got::Shown(x) => {
-                return self.tell(x);
-            }
-            Got::NotReady => {
-                return self.refuse(3);
-            }
-        }
-    }
-
-    fn read_timer(self, a: u8) -> Outcome
-        ensures { λ r. ⌜ r ≡ timerShown self a ⌝ }
-    {
-        let t = self.timer;
-        let g = t.read(a);
-        if g.status == 0 {
-            let after = g.timer;
-            let mut next = self;
-            next.timer = after;
-            return next.tell(g.byte);
-        }
-        self.refuse(g.status)
-    }
-
-    fn read_dma(self, register: u8) -> Outcome
-        ensures { λ r. ⌜ r ≡ dmaShown self register ⌝ }
-    {
-        let d = self.dma;
-        let g = d.read(register);
-        if g.status == 0 {
-            let after = g.dma;
-            let mut next = self;
-            next.dma = after;
-            return next.tell(g.byte);
-        }
-        self.refuse(g.status)
-    }
-
-    fn read(self, port: u8) -> Outcome
-        ensures { λ r. ⌜ r ≡ readOf self port ⌝ }
-    {
-        let chip = port / 16;
-        if chip == 0 {
-            return self.read_icu(port % 2 == 1);
-        }
-        if chip == 1 {
-            return self.read_timer(port);
-        }
-        self.read_dma(port)
-    }
-
-    fn acknowledge(self) -> Outcome
-        ensures { λ r. ⌜ r ≡ icuTold self (acknowledged self) ⌝ }
-    {
-        let t = self.timer;
-        let i = self.icu;
-        let a = i.acknowledge(lines_at(self.intp, t));
-        match a {
-            Acknowledged::Vector(c, x) => {
-                let mut next = self;
-                next.icu = c;
-                return next.tell(x);
-            }
-            Acknowledged::Call(c, low, high) => {
-                let mut next = self;
-                next.icu = c;
-                return Outcome {
-                    status: 0,
-                    board: next,
-                    byte: 0,
-                    payload: [0xcd, low, high, 0, 0, 0, 0, 0, 0, 0, 0, 0],
-                };
-            }
-            Acknowledged::Unready => {
-                return self.refuse(3);
-            }
-            Acknowledged::IntLow => {
-                return self.refuse(5);
-            }
-        }
-    }
-
-    fn advance(self, n: u32) -> Outcome
-        ensures { λ r. ⌜ r ≡ advanceOf self n ⌝ }
-    {
-        let t = self.timer;
-        let i = self.icu;
-        let run = run_pulses(t, i, self.intp, n);
-        let timer = run.timer;
-        let icu = run.icu;
-        let rises = run.rises;
-        let mut next = self;
-        next.timer = timer;
-        next.icu = icu;
-        Outcome {
-            status: 0,
-            board: next,
-            byte: 0,
-            payload: rises_payload(rises),
-        }
-    }
-
-    fn cycle(self, end: bool, byte: u8, memory: &mut [u8]) -> Outcome
-        ensures result { λ r. ⌜ r ≡ cycleOf self end byte (now (memory .entry)) ⌝ }
-        ensures memory { λ _. ⌜ now (memory .exit) ≡ cycleMemory self end byte (now (memory .entry)) ⌝ }
-    {
-        let d = self.dma;
-        let c = d.cycle(end, byte, memory);
-        let after = c.dma;
-        let report = c.report;
-        let mut next = self;
-        next.dma = after;
-        Outcome {
-            status: 0,
-            board: next,
-            byte: byte_moved(report),
-            payload: payload(report),
-        }
-    }
-
-    // Whether a served DMA channel keeps the processor off the bus.
-    fn is_blocked(self, o: Operation) -> bool
-        ensures { λ r. ⌜ r ≡ blocked self o ⌝ }
-    {
-        if self.dma.serving {
-            return o.uses_bus();
-        }
-        false
-    }
-
-    fn execute(self, o: Operation, memory: &mut [u8]) -> Outcome
-        ensures result { λ r. ⌜ r ≡ executeOf self o (now (memory .entry)) ⌝ }
-        ensures memory { λ _. ⌜ now (memory .exit) ≡ memoryAfter self o (now (memory .entry)) ⌝ }
-    {
-        match o {
-            Operation::Reset => {
-                let mut next = Board::reset();
-                let kept = self.kept;
-                next.kept = kept;
-                return next.complete();
-            }
-            Operation::Write(port, x) => {
-                return self.write(port, x);
-            }
-            Operation::Read(port) => {
-                return self.read(port);
-            }
-            Operation::Intp(levels) => {
-                let t = self.timer;
-                return self.rewire(levels, t).complete();
-            }
-            Operation::Gates(levels) => {
-                let t = self.timer;
-                let after = t.set_gates(levels);
-                return self.rewire(self.intp, after).complete();
-            }
-            Operation::Requests(levels) => {
-                let d = self.dma;
-                let after = d.set_requests(levels);
-                let mut next = self;
-                next.dma = after;
-                return next.complete();
-            }
-            Operation::Acknowledge => {
-                return self.acknowledge();
-            }
-            Operation::Advance(n) => {
-                return self.advance(n);
-            }
-            Operation::Cycle(end, x) => {
-                return self.cycle(end, x, memory);
-            }
-        }
-    }
-
-    // The outcome as an answer.
-    fn answer(op: u8, o: Outcome) -> Stepped
-        ensures { λ r. ⌜ r ≡ answeredOf op o ⌝ }
-    {
-        let b = o.board;
-        let p = o.payload;
-        let a = tape::answer(o.status, op, o.byte, b.levels(), p);
-        Stepped {
-            board: b,
-            answer: a,
-        }
-    }
-
-    // One record.
+    // One record: the loop, over this record alone. The kept bytes have no part in it.
     pub fn step(self, r: [u8; 8], memory: &mut [u8]) -> Stepped
         ensures result { λ s. ⌜ s ≡ stepOf self r (now (memory .entry)) ⌝ }
         ensures memory { λ _. ⌜ now (memory .exit) ≡ stepMemory self r (now (memory .entry)) ⌝ }
     {
-        let op = r[0];
-        let d = tape::decode(r);
-        let Decoded::Asked(o) = d else {
-            return Board::answer(op, self.refuse(2));
+        let kept = self.kept;
+        let mut answer = [0u8; 16];
+        let mut alone = self;
+        alone.kept = Kept {
+            bytes: [0u8; 7],
+            length: 0,
         };
-        if self.is_blocked(o) {
-            return Board::answer(op, self.refuse(1));
+        let mut next = alone.run(&r, memory, &mut answer);
+        next.kept = kept;
+        Stepped {
+            board: next,
+            answer: answer,
         }
-        Board::answer(op, self.execute(o, memory))
+    }
+
+    // The whole records that the kept bytes and the tape make, one after another, as many as the buffer has room for. The kept bytes stay as
+    // they were. The loop owns the chips, and each operation is an arm that changes its own chip, puts its answer and goes on to the next record.
+    pub fn run(self, tape: &[u8], memory: &mut [u8], answers: &mut [u8]) -> Board
+        ensures result { λ r. ⌜ r ≡ after self (now (memory .entry)) (bytesOf self (now (tape .entry))) (fitting self (now (tape .entry)) (length (now (answers .entry)))) .board ⌝ }
+        ensures memory { λ _. ⌜ now (memory .exit) ≡ after self (now (memory .entry)) (bytesOf self (now (tape .entry))) (fitting self (now (tape .entry)) (length (now (answers .entry)))) .memory ⌝ }
+        ensures answers { λ _. ⌜ now (answers .exit) ≡ after self (now (memory .entry)) (bytesOf self (now (tape .entry))) (fitting self (now (tape .entry)) (length (now (answers .entry)))) .answers ++ drop (16 * fitting self (now (tape .entry)) (length (now (answers .entry)))) (now (answers .entry)) ⌝ }
+    {
+        let kept = self.kept;
+        let bytes = self.kept.bytes;
+        let size = self.kept.length;
+        let total = tape::held(size) + tape.len();
+        let k = least(total / 8, answers.len() / 16);
+        let mut levels = self.levels();
+        let mut icu = self.icu;
+        let mut intp = self.intp;
+        let mut timer = self.timer;
+        let mut dma = self.dma;
+        for i in 0..k {
+            let r = record_at(bytes, size, tape, i);
+            let op = r[0];
+            let d = tape::decode(r);
+            // not a record at all
+            let Decoded::Asked(o) = d else {
+                tell(answers, i, 2, op, 0, levels, [0u8; 12]);
+                continue;
+            };
+            // the bus is with a DMA channel
+            if is_blocked(dma.serving, o) {
+                tell(answers, i, 1, op, 0, levels, [0u8; 12]);
+                continue;
+            }
+            match o {
+                // the chips at their reset, INTP and the DMA requests low; the memory stays
+                Operation::Reset => {
+                    icu = Icu::reset();
+                    intp = 0;
+                    timer = Timer::reset();
+                    dma = Dma::reset();
+                    levels = 0;
+                    tell(answers, i, 0, op, 0, levels, [0u8; 12]);
+                    continue;
+                }
+                // the chip that the port's high digit names
+                Operation::Write(port, x) => {
+                    let chip = port / 16;
+                    if chip == 0 {
+                        let t = write_icu(icu, port % 2 == 1, x);
+                        let c = t.icu;
+                        let p = t.payload;
+                        icu = c;
+                        levels = levels_at(icu, intp, timer);
+                        tell(answers, i, t.status, op, t.byte, levels, p);
+                        continue;
+                    }
+                    // OUT0 may change, and reaches the interrupt chip at once
+                    if chip == 1 {
+                        let w = timer.write(port, x);
+                        if w.status == 0 {
+                            let after = w.timer;
+                            let wired = rewire(icu, intp, timer, intp, after);
+                            let c = wired.icu;
+                            icu = c;
+                            timer = after;
+                            levels = wired.levels;
+                            tell(answers, i, 0, op, 0, levels, [0u8; 12]);
+                            continue;
+                        }
+                        tell(answers, i, w.status, op, 0, levels, [0u8; 12]);
+                        continue;
+                    }
+                    let w = dma.write(port, x);
+                    if w.status == 0 {
+                        let after = w.dma;
+                        dma = after;
+                        tell(answers, i, 0, op, 0, levels, [0u8; 12]);
+                        continue;
+                    }
+                    tell(answers, i, w.status, op, 0, levels, [0u8; 12]);
+                    continue;
+                }
+                // likewise; no level changes
+                Operation::Read(port) => {
+                    let chip = port / 16;
+                    if chip == 0 {
+                        let t = read_icu(icu, port % 2 == 1, lines_at(intp, timer));
+                        let p = t.payload;
+                        tell(answers, i, t.status, op, t.byte, levels, p);
+                        continue;
+                    }
+                    // port 13H is not open to reads, so this is a counter's
+                    if chip == 1 {
+                        let n = (port % 4 % 3) as usize;
+                        let mut c = timer.counters[n];
+                        let s = c.look();
+                        c.latched = s.latched;
+                        c.second = s.second;
+                        timer.counters[n] = c;
+                        tell(answers, i, s.status, op, s.byte, levels, [0u8; 12]);
+                        continue;
+                    }
+                    let s = dma.look(port);
+                    dma.ends = s.ends;
+                    tell(answers, i, s.status, op, s.byte, levels, [0u8; 12]);
+                    continue;
+                }
+                // INTP1 to INTP7; INTP0 is OUT0
+                Operation::Intp(x) => {
+                    let wired = rewire(icu, intp, timer, x, timer);
+                    let c = wired.icu;
+                    icu = c;
+                    intp = x;
+                    levels = wired.levels;
+                    tell(answers, i, 0, op, 0, levels, [0u8; 12]);
+                    continue;
+                }
+                // a gate may set OUT0 high
+                Operation::Gates(x) => {
+                    let after = timer.set_gates(x);
+                    let wired = rewire(icu, intp, timer, intp, after);
+                    let c = wired.icu;
+                    icu = c;
+                    timer = after;
+                    levels = wired.levels;
+                    tell(answers, i, 0, op, 0, levels, [0u8; 12]);
+                    continue;
+                }
+                Operation::Requests(x) => {
+                    dma = dma.set_requests(x);
+                    tell(answers, i, 0, op, 0, levels, [0u8; 12]);
+                    continue;
+                }
+                // the interrupt chip gives the vector or the CALL
+                Operation::Acknowledge => {
+                    let t = acknowledge(icu, lines_at(intp, timer));
+                    let c = t.icu;
+                    let p = t.payload;
+                    icu = c;
+                    levels = levels_at(icu, intp, timer);
+                    tell(answers, i, t.status, op, t.byte, levels, p);
+                    continue;
+                }
+                // one clock for the three counters; OUT0 reaches the interrupt chip after each pulse
+                Operation::Advance(n) => {
+                    let a = run_pulses(timer, icu, intp, n);
+                    let t = a.timer;
+                    let c = a.icu;
+                    let rises = a.rises;
+                    timer = t;
+                    icu = c;
+                    levels = levels_at(icu, intp, timer);
+                    tell(answers, i, 0, op, 0, levels, rises_payload(rises));
+                    continue;
+                }
+                // a plain unit changes its channel alone; any other cycle is the DMA chip's
+                Operation::Cycle(end, x) => {
+                    let n = dma.channel;
+                    let at = (n % 4) as usize;
+                    let c = dma.channels[at];
+                    if dma::is_plain(c, dma.serving, n, dma.requests, end) {
+                        let byte = c.transfer(x, memory);
+                        dma.channels[at] = c.advance(false);
+                        let p = moved_payload(n, false, false, c.current.address);
+                        tell(answers, i, 0, op, byte, levels, p);
+                        continue;
+                    }
+                    let cycled = dma.cycle(end, x, memory);
+                    let after = cycled.dma;
+                    let report = cycled.report;
+                    dma = after;
+                    tell(
+                        answers,
+                        i,
+                        0,
+                        op,
+                        byte_moved(report),
+                        levels,
+                        payload(report),
+                    );
+                    continue;
+                }
+            }
+        }
+        Board {
+            icu: icu,
+            intp: intp,
+            timer: timer,
+            dma: dma,
+            kept: kept,
+        }
     }
 }

@@ -1,5 +1,5 @@
 -- A read changes nothing of the chip but its end bits.
-use mathlib.Core.Bool.{Bool, true, false}
+use mathlib.Core.Bool.{Bool, true, false, true≢false}
 use mathlib.Core.Path.{_≡_, refl, ap, _∙_}
 use Prim.Native.Nat.{ℕ, _%_}
 use lib.Dec.{eqb, leb, ltb}
@@ -44,6 +44,22 @@ same-by d s u v w x y false false false false false false false true _ = refl
 same-by d s u v w x y false false false false false false false false true = refl
 same-by d s u v w x y false false false false false false false false false = refl
 
+-- and one that is refused shows nothing and changes nothing
+unread-by : (d : Dma) (s u v w x y : ℕ) (r₀ r₁ r₆ r₇ r₈ r₉ rₐ rᵦ rₑ : Bool)
+    → let g = answers d s u v w x y r₀ r₁ r₆ r₇ r₈ r₉ rₐ rᵦ rₑ in
+      eqb (g .status) 0 ≡ false
+    → g ≡ unread (g .status) d
+unread-by d s u v w x y true _ _ _ _ _ _ _ _ h = refl
+unread-by d s u v w x y false true _ _ _ _ _ _ _ h = absurd (true≢false h)
+unread-by d s u v w x y false false true _ _ _ _ _ _ h = absurd (true≢false h)
+unread-by d s u v w x y false false false true _ _ _ _ _ h = refl
+unread-by d s u v w x y false false false false true _ _ _ _ h = absurd (true≢false h)
+unread-by d s u v w x y false false false false false true _ _ _ h = absurd (true≢false h)
+unread-by d s u v w x y false false false false false false true _ _ h = absurd (true≢false h)
+unread-by d s u v w x y false false false false false false false true _ h = absurd (true≢false h)
+unread-by d s u v w x y false false false false false false false false true h = refl
+unread-by d s u v w x y false false false false false false false false false h = absurd (true≢false h)
+
 same : (d : Dma) (r : ℕ) → back d (seenAs (readOf d r)) ≡ readOf d r
 unfolding readOf
 same d r =
@@ -53,3 +69,9 @@ same d r =
 pub put-back : (d : Dma) (r : ℕ) (s : Seen) → s ≡ seenOf d r → back d s ≡ readOf d r
 unfolding seenOf
 put-back d r s e = ap (λ (z : Seen). back d z) e ∙ same d r
+
+pub unread-leaves : (d : Dma) (r : ℕ) → eqb (readOf d r .status) 0 ≡ false → readOf d r ≡ unread (readOf d r .status) d
+unfolding readOf
+unread-leaves d r =
+    let k = r % 16 in
+    unread-by d _ _ _ _ _ _ (eqb k 0) (eqb k 1) (leb k 6) (eqb k 7) (eqb k 8) (eqb k 9) (eqb k 10) (eqb k 11) (ltb k 15)

@@ -1,16 +1,15 @@
 -- A call.
-use Prim.Native.Nat.{ℕ, zero, suc, _+_, _*_, _/_, _%_}
+use Prim.Native.Nat.{ℕ, _+_, _*_, _/_, _%_}
 use mathlib.Core.Bool.{Bool, not}
-use mathlib.Core.List.{List, [], _++_}
+use mathlib.Core.List.{List, _++_}
 use lib.Dec.{ltb}
-use lib.ListN.{length, take, drop}
+use lib.ListN.{length, drop}
 use Rattle.bits.specs.Choice.{if_then_else_, _and_}
 use Rattle.board.specs.declared.Board.{Board}
-use Rattle.board.specs.declared.Kept.{Kept}
-use Rattle.board.specs.Step.{stepOf, stepMemory}
+use Rattle.board.specs.Records.{after, bytesOf}
 use Rattle.intake.specs.declared.Fed.{Fed}
 use Rattle.intake.specs.Ranges.{inRange}
-use Rattle.intake.specs.Records.{recordAt, restAt}
+use Rattle.intake.specs.Records.{restAt}
 
 -- The bytes of a call make k whole records.
 abbrev pub countOf : Board → List ℕ → ℕ

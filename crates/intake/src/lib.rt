@@ -2,10 +2,10 @@
 ghost use mathlib.Core.Path.{_≡_};
 ghost use mathlib.Core.List.{_++_};
 ghost use Prim.Native.Nat.{_+_, _*_, _≤_};
-ghost use lib.ListN.{length, take, getD};
-ghost use lib.Seq.{paste};
+ghost use lib.ListN.{length, take};
+ghost use Rattle.tape.specs.Records.{heldOf};
 ghost use Rattle.intake.specs.Ranges.{iw1Good, icuGood, counterGood, timerGood, channelGood, channelsGood, dmaGood, inRange};
-ghost use Rattle.intake.specs.Records.{recordAt, restAt};
+ghost use Rattle.intake.specs.Records.{restAt};
 ghost use Rattle.intake.specs.Feed.{fedOf, fedMemory, fedAnswers};
 use board::Board;
 use board::Kept;
@@ -23,66 +23,23 @@ pub struct Fed {
     pub board: Board,
 }
 
-// Byte j of the kept bytes with the tape after them, 0 past the end.
-fn byte_at(kept: [u8; 7], held: usize, tape: &[u8], j: usize) -> u8
-    requires { ⌜ held ≤ 7 ⌝ }
-    ensures { λ r. ⌜ r ≡ getD (take held kept ++ now (tape .entry)) j 0 ⌝ }
-{
-    if j < held {
-        return kept[j];
-    }
-    let t = j - held;
-    if t < tape.len() {
-        return tape[t];
-    }
-    0
-}
-
-// Record i of these bytes.
-fn record_at(kept: [u8; 7], held: usize, tape: &[u8], i: usize) -> [u8; 8]
-    requires { ⌜ held ≤ 7 ⌝ }
-    requires { ⌜ 8 * i ≤ held + length (now tape) ⌝ }
-    ensures { λ r. ⌜ r ≡ recordAt (take held kept ++ now (tape .entry)) i ⌝ }
+// The bytes from record i on, which are fewer than eight, and zeros after them. Where none are left, nothing is looked up.
+fn rest_at(kept: [u8; 7], size: u8, tape: &[u8], i: usize) -> [u8; 7]
+    requires { ⌜ 8 * i ≤ heldOf size + length (now tape) ⌝ }
+    ensures { λ r. ⌜ r ≡ restAt (take size kept ++ now (tape .entry)) i ⌝ }
 {
     let at = 8 * i;
-    let b0 = byte_at(kept, held, tape, at);
-    let b1 = byte_at(kept, held, tape, at + 1);
-    let b2 = byte_at(kept, held, tape, at + 2);
-    let b3 = byte_at(kept, held, tape, at + 3);
-    let b4 = byte_at(kept, held, tape, at + 4);
-    let b5 = byte_at(kept, held, tape, at + 5);
-    let b6 = byte_at(kept, held, tape, at + 6);
-    let b7 = byte_at(kept, held, tape, at + 7);
-    [b0, b1, b2, b3, b4, b5, b6, b7]
-}
-
-// The bytes from record i on, which are fewer than eight, and zeros after them.
-fn rest_at(kept: [u8; 7], held: usize, tape: &[u8], i: usize) -> [u8; 7]
-    requires { ⌜ held ≤ 7 ⌝ }
-    requires { ⌜ 8 * i ≤ held + length (now tape) ⌝ }
-    ensures { λ r. ⌜ r ≡ restAt (take held kept ++ now (tape .entry)) i ⌝ }
-{
-    let at = 8 * i;
-    let b0 = byte_at(kept, held, tape, at);
-    let b1 = byte_at(kept, held, tape, at + 1);
-    let b2 = byte_at(kept, held, tape, at + 2);
-    let b3 = byte_at(kept, held, tape, at + 3);
-    let b4 = byte_at(kept, held, tape, at + 4);
-    let b5 = byte_at(kept, held, tape, at + 5);
-    let b6 = byte_at(kept, held, tape, at + 6);
+    if at == tape::held(size) + tape.len() {
+        return [0u8; 7];
+    }
+    let b0 = tape::byte_at(kept, size, tape, at);
+    let b1 = tape::byte_at(kept, size, tape, at + 1);
+    let b2 = tape::byte_at(kept, size, tape, at + 2);
+    let b3 = tape::byte_at(kept, size, tape, at + 3);
+    let b4 = tape::byte_at(kept, size, tape, at + 4);
+    let b5 = tape::byte_at(kept, size, tape, at + 5);
+    let b6 = tape::byte_at(kept, size, tape, at + 6);
     [b0, b1, b2, b3, b4, b5, b6]
-}
-
-// An answer, put into the buffer.
-fn put(to: &mut [u8], at: usize, a: [u8; 16])
-    requires { ⌜ at + 16 ≤ length (now to) ⌝ }
-    ensures { λ _. ⌜ now (to .exit) ≡ paste (now (to .entry)) at a 16 ⌝ }
-{
-    let mut j = 0;
-    while j < 16 {
-        to[at + j] = a[j];
-        j += 1;
-    }
 }
 
 // No IW1 yet, or one that was taken: D4 and SNGL set.
@@ -228,8 +185,8 @@ pub fn feed(board: Board, tape: &[u8], memory: &mut [u8], answers: &mut [u8]) ->
             board: board,
         };
     }
-    let held = board.kept.length as usize;
-    let total = held + tape.len();
+    let size = board.kept.length;
+    let total = tape::held(size) + tape.len();
     let k = total / 8;
     if answers.len() / 16 < k {
         return Fed {
@@ -239,17 +196,8 @@ pub fn feed(board: Board, tape: &[u8], memory: &mut [u8], answers: &mut [u8]) ->
         };
     }
     let kept = board.kept.bytes;
-    let mut next = board;
-    let mut i = 0;
-    while i < k {
-        let r = record_at(kept, held, tape, i);
-        let s = next.step(r, memory);
-        let a = s.answer;
-        put(answers, 16 * i, a);
-        next = s.board;
-        i += 1;
-    }
-    let rest = rest_at(kept, held, tape, k);
+    let mut next = board.run(tape, memory, answers);
+    let rest = rest_at(kept, size, tape, k);
     let waiting = Kept {
         bytes: rest,
         length: (total % 8) as u8,
