@@ -3,6 +3,8 @@ ghost use mathlib.Core.Path.{_≡_};
 ghost use Prim.Native.Nat.{_≤_, _<_};
 ghost use Rattle.timer.specs.Ports.{resetOf, toldWrote, toldShown, moded, modeSet, modeWord, latchWord, controlOf, completed, countOf, begun, writeOf, held, readOf, seenOf};
 ghost use Rattle.timer.specs.Pulse.{transferred, pulse0, pulse2, pulseOf, gateOf};
+ghost use Rattle.timer.specs.Run.{riseOf, ranOf};
+ghost use Rattle.timer.specs.Steady.{moved, fall0, fall2, fellOf, fallenTo, rested, steadyOf};
 ghost use Rattle.timer.specs.Timer.{at, resetsOf, wroteBy, gotBy, controlsOf, writesOf, readsOf, pulsesOf, gatesOf, outsOf};
 
 #[repr(C)]
@@ -58,6 +60,19 @@ pub struct Seen {
     pub second: bool,
 }
 
+// What n pulses make of a counter: the counter afterwards, and how many of them made OUT rise.
+pub struct Ran {
+    pub counter: Counter,
+    pub rises: u32,
+}
+
+// The same of the value and OUT alone, where nothing else moves.
+pub struct Fall {
+    pub value: u16,
+    pub out: bool,
+    pub rises: u32,
+}
+
 #[repr(C)]
 pub struct Timer {
     pub counters: [Counter; Timer::COUNTERS],
@@ -74,6 +89,69 @@ pub struct Got {
     pub status: u8,
     pub byte: u8,
     pub timer: Timer,
+}
+
+// One where a level rose.
+fn rise(was: bool, now: bool) -> u32
+    ensures { λ r. ⌜ r ≡ riseOf was now ⌝ }
+    ensures { λ r. ⌜ r ≤ 1 ⌝ }
+{
+    if was {
+        return 0;
+    }
+    if now {
+        return 1;
+    }
+    0
+}
+
+// n pulses of mode 0. OUT never falls on the way, so it rose once if it ends high and was low.
+fn fall_0(value: u16, out: bool, n: u32) -> Fall
+    ensures { λ r. ⌜ r ≡ fellOf fall0 (moved value out) n ⌝ }
+{
+    let mut v = value;
+    let mut high = out;
+    let mut i = 0;
+    while i < n {
+        i += 1;
+        v = bits::one_less(v);
+        if v == 0 {
+            high = true;
+        }
+    }
+    Fall {
+        value: v,
+        out: high,
+        rises: rise(out, high),
+    }
+}
+
+// n pulses of mode 2.
+fn fall_2(count: u16, value: u16, out: bool, n: u32) -> Fall
+    ensures { λ r. ⌜ r ≡ fellOf (fall2 count) (moved value out) n ⌝ }
+{
+    let mut v = value;
+    let mut high = out;
+    let mut rises = 0;
+    let mut i = 0;
+    while i < n {
+        i += 1;
+        if v == 1 {
+            rises += rise(high, true);
+            v = count;
+            high = true;
+            continue;
+        }
+        v = bits::one_less(v);
+        if v == 1 {
+            high = false;
+        }
+    }
+    Fall {
+        value: v,
+        out: high,
+        rises: rises,
+    }
 }
 
 impl Counter {
@@ -387,6 +465,67 @@ impl Counter {
             return self;
         }
         self
+    }
+
+    fn fall_to(mut self, f: Fall) -> Ran
+        ensures { λ r. ⌜ r ≡ fallenTo self f ⌝ }
+    {
+        self.value = f.value;
+        self.out = f.out;
+        Ran {
+            counter: self,
+            rises: f.rises,
+        }
+    }
+
+    fn rest(self) -> Ran
+        ensures { λ r. ⌜ r ≡ rested self ⌝ }
+    {
+        Ran {
+            counter: self,
+            rises: 0,
+        }
+    }
+
+    // n pulses of a counter for which nothing pends.
+    fn run_steady(self, n: u32) -> Ran
+        ensures { λ r. ⌜ r ≡ steadyOf self n ⌝ }
+    {
+        if self.full {
+            if self.mode == 0 {
+                if self.half {
+                    return self.rest();
+                }
+                if self.gate {
+                    return self.fall_to(fall_0(self.value, self.out, n));
+                }
+                return self.rest();
+            }
+            if self.mode == 2 {
+                if self.gate {
+                    return self.fall_to(fall_2(self.count, self.value, self.out, n));
+                }
+                return self.rest();
+            }
+            return self.rest();
+        }
+        self.rest()
+    }
+
+    // n pulses of CLK: the first uses up what pends.
+    pub fn run(self, n: u32) -> Ran
+        ensures { λ r. ⌜ r ≡ ranOf self n ⌝ }
+    {
+        if n == 0 {
+            return self.rest();
+        }
+        let next = self.pulse();
+        let rest = next.run_steady(n - 1);
+        let last = rest.counter;
+        Ran {
+            counter: last,
+            rises: rise(self.out, next.out) + rest.rises,
+        }
     }
 
     // GATE at a level; a repeated level is no edge.

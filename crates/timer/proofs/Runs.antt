@@ -1,0 +1,217 @@
+-- n pulses of one counter are the first by the rule, and then those of a counter for which nothing pends.
+use mathlib.Core.Bool.{Bool, true, false}
+use mathlib.Core.Path.{_≡_, refl, ap, sym, _∙_}
+use Prim.Native.Nat.{ℕ, zero, suc, _+_, _≤_}
+use native.Mathlib.Nat.{zero-add, add-zero, add-assoc}
+use native.Mathlib.Numerals.{add-one}
+use native.Mathlib.Omega.{arith}
+use lib.Dec.{eqb}
+use Rattle.bits.specs.Choice.{if_then_else_, _or_}
+use Rattle.bits.specs.Bits.{less}
+use Rattle.timer.specs.Fields.{value-is, out-is}
+use Rattle.timer.specs.Pulse.{counted0, pulse0, reloaded, counted2, pulse2, pulseOf}
+use Rattle.timer.specs.Run.{riseOf, ranOn, ranOf}
+use Rattle.timer.specs.Steady.{Moving, moved, fall0, fall2, moving, fellOn, fellOf, fallenTo, fellBy, rested, steady0, steady2, steadyOf}
+use Rattle.timer.specs.declared.Counter.{Counter}
+use Rattle.timer.specs.declared.Fall.{Fall}
+use Rattle.timer.specs.declared.Ran.{Ran}
+
+-- what holds of both, each where its test says so, holds of the one chosen
+pick : {A : Type 0} {x y : A} (P : A → Type 0) (b : Bool) → (b ≡ true → P x) → (b ≡ false → P y) → P (if b then x else y)
+pick P true f g = f refl
+pick P false f g = g refl
+
+-- a level that stays does not rise, nor one that falls
+pub no-rise : (level : Bool) → riseOf level level ≡ 0
+no-rise true = refl
+no-rise false = refl
+
+pub no-rise-low : (level : Bool) → riseOf level false ≡ 0
+no-rise-low true = refl
+no-rise-low false = refl
+
+-- The first pulse apart: the others are those of the counter that it leaves.
+abbrev pub ranFirst : Counter → Ran → Ran
+ranFirst c r = record { counter = r .counter; rises = riseOf (c .out) (pulseOf c .out) + r .rises }
+
+first : (c : Counter) (n : ℕ) → ranFirst c (ranOf (pulseOf c) n) ≡ ranOf c (suc n)
+unfolding ranOf
+first c zero = rw (add-zero, zero-add)
+first c (suc n) = rw (← add-assoc) (ap ranOn (first c n))
+
+-- A counter that a pulse leaves as it is stays so.
+abbrev Runs : Counter → ℕ → Ran → Type 0
+Runs c n r = r ≡ ranOf c n
+
+rests : (c : Counter) (n : ℕ) → pulseOf c ≡ c → Runs c n (rested c)
+unfolding ranOf
+rests c zero still = refl
+rests c (suc n) still = rw (← rests c n still, still, no-rise (c .out))
+
+-- A counter of which a pulse moves value and OUT alone, by a rule, falls by that rule.
+abbrev moved-to : Moving → Counter → Counter
+moved-to m c = out-is (m .out) (value-is (m .value) c)
+
+module _ (fall : Moving → Moving) where
+  module _ (c : Counter) (by : (m : Moving) → pulseOf (moved-to m c) ≡ moved-to (fall m) c) where
+    falls-from : (m : Moving) (n : ℕ) → fallenTo c (fellOf fall m n) ≡ ranOf (moved-to m c) n
+    unfolding ranOf fellOf
+    falls-from m zero = refl
+    falls-from m (suc n) = rw (← falls-from m n, by (moving (fellOf fall m n)))
+
+    falls : (n : ℕ) → Runs c n (fellBy fall c n)
+    falls n = falls-from (moved (c .value) (c .out)) n
+
+  -- One pulse more.
+  pub on : (m : Moving) (n : ℕ) (f g : Fall) → f ≡ fellOf fall m n → g ≡ fellOn fall f → g ≡ fellOf fall m (n + 1)
+  unfolding fellOf
+  on m n f g e h = rw add-one (h ∙ ap (fellOn fall) e)
+
+  -- Where OUT once high stays high, it rises once at most, and a loop need not count.
+  module _ (m : Moving) where
+    pub moved-on : (n : ℕ) (k l : Moving) → k ≡ moving (fellOf fall m n) → l ≡ fall k → l ≡ moving (fellOf fall m (n + 1))
+    unfolding fellOf
+    moved-on n k l e h = rw add-one (h ∙ ap fall e)
+
+    module _ (stays : (k : Moving) → k .out ≡ true → fall k .out ≡ true) where
+      still-high : (n : ℕ) → m .out ≡ true → fellOf fall m n .out ≡ true
+      unfolding fellOf
+      still-high zero e = e
+      still-high (suc n) e = stays _ (still-high n e)
+
+      rises-once : (n : ℕ) → fellOf fall m n .rises ≡ riseOf (m .out) (fellOf fall m n .out)
+      unfolding fellOf
+      rises-once zero = sym (no-rise (m .out))
+      rises-once (suc n) = rw (rises-once n) (by (m .out) _ _ (still-high n) (stays _))
+        where
+          by : (a b d : Bool) → (a ≡ true → b ≡ true) → (b ≡ true → d ≡ true) → riseOf a b + riseOf b d ≡ riseOf a d
+          by true true d p q = refl
+          by true false d p q = let e : false ≡ true = p refl in cc
+          by false true d p q = rw (q refl)
+          by false false true p q = refl
+          by false false false p q = refl
+
+      abbrev counted : Moving → ℕ → Fall
+      counted k r = record { value = k .value; out = k .out; rises = r }
+
+      pub fell-once : (n : ℕ) (k : Moving) (r : ℕ) → k ≡ moving (fellOf fall m n) → r ≡ riseOf (m .out) (k .out) → counted k r ≡ fellOf fall m n
+      fell-once n k r e h =
+          rw (h, e) (ap (counted (moving (fellOf fall m n))) (sym (rises-once n)))
+
+pub stays0 : (k : Moving) → k .out ≡ true → fall0 k .out ≡ true
+stays0 k e = pick (λ (x : Moving). x .out ≡ true) (eqb (less (k .value)) 0) (λ z. refl) (λ z. e)
+
+-- Something pends that the next pulse uses up.
+abbrev pends : Counter → Bool
+pends c =
+    if c .full then (if eqb (c .mode) 0 then c .pending else if eqb (c .mode) 2 then c .pending or c .trigger else false)
+    else false
+
+abbrev Settled : Counter → Type 0
+Settled c = pends c ≡ false
+
+-- a counter moved to the one of two places that a test says
+to-either : (c : Counter) (b : Bool) {x y : Moving} {p q : Counter} → p ≡ moved-to x c → q ≡ moved-to y c → (if b then p else q) ≡ moved-to (if b then x else y) c
+to-either c true d e = d
+to-either c false d e = e
+
+-- Mode 0: a pulse settles it, and settled it goes on by `steady0`.
+module _ (c : Counter) (f : c .full ≡ true) (m : eqb (c .mode) 0 ≡ true) where
+  settles0 : Settled (pulse0 c)
+  unfolding pulse0
+  settles0 =
+      pick Settled (c .pending) (λ p. rw (f, m))
+      (λ p.
+      pick Settled (c .half) (λ h. rw (f, m, p))
+      (λ h.
+      pick Settled (c .gate) (λ g. pick Settled (eqb (less (c .value)) 0) (λ z. rw (f, m, p)) (λ z. rw (f, m, p)))
+      (λ g. rw (f, m, p))))
+
+  goes0 : Settled c → (n : ℕ) → Runs c n (steady0 c n)
+  unfolding pulseOf pulse0
+  goes0 s n =
+      let p : c .pending ≡ false = rw (f, m) at s in
+      pick (Runs c n) (c .half) (λ h. rests c n (rw (f, m, p, h)))
+      (λ h.
+      pick (Runs c n) (c .gate)
+      (λ g.
+      falls fall0 c
+      (λ v.
+      let d = moved-to v c in
+      let e : pulseOf d ≡ counted0 (less (v .value)) d = rw (f, m, p, h, g) in
+      e ∙ to-either c (eqb (less (v .value)) 0) refl refl)
+      n)
+      (λ g. rests c n (rw (f, m, p, h, g))))
+
+-- Mode 2: the same, by `steady2`.
+or-none : (a b : Bool) → (a or b) ≡ false → (a ≡ false) × (b ≡ false)
+or-none true b e = (e, let z : true ≡ false = e in cc)
+or-none false b e = (refl, e)
+
+module _ (c : Counter) (f : c .full ≡ true) (m : eqb (c .mode) 0 ≡ false) (k : eqb (c .mode) 2 ≡ true) where
+  settles2 : Settled (pulse2 c)
+  unfolding pulse2
+  settles2 =
+      pick Settled (c .pending) (λ p. rw (f, m, k))
+      (λ p.
+      pick Settled (c .trigger) (λ t. rw (f, m, k, p))
+      (λ t.
+      pick Settled (c .gate)
+      (λ g.
+      pick Settled (eqb (c .value) 1) (λ z. rw (f, m, k, p, t))
+      (λ z. pick Settled (eqb (less (c .value)) 1) (λ o. rw (f, m, k, p, t)) (λ o. rw (f, m, k, p, t))))
+      (λ g. rw (f, m, k, p, t))))
+
+  goes2 : Settled c → (n : ℕ) → Runs c n (steady2 c n)
+  unfolding pulseOf pulse2
+  goes2 s n =
+      let q : (c .pending ≡ false) × (c .trigger ≡ false) = or-none (c .pending) (c .trigger) (rw (f, m, k) at s) in
+      pick (Runs c n) (c .gate)
+      (λ g.
+      falls (fall2 (c .count)) c
+      (λ v.
+      let d = moved-to v c in
+      let e : pulseOf d ≡ (if eqb (v .value) 1 then reloaded d else counted2 (less (v .value)) d) = rw (f, m, k, q .0, q .1, g) in
+      e ∙ to-either c (eqb (v .value) 1) refl (to-either c (eqb (less (v .value)) 1) refl refl))
+      n)
+      (λ g. rests c n (rw (f, m, k, q .0, q .1, g)))
+
+-- Every counter.
+settles : (c : Counter) → Settled (pulseOf c)
+unfolding pulseOf
+settles c =
+    pick Settled (c .full)
+    (λ f.
+    pick Settled (eqb (c .mode) 0) (settles0 c f)
+    (λ m. pick Settled (eqb (c .mode) 2) (settles2 c f m) (λ k. rw (f, m, k))))
+    (λ f. rw f)
+
+goes : (c : Counter) → Settled c → (n : ℕ) → Runs c n (steadyOf c n)
+unfolding steadyOf pulseOf
+goes c s n =
+    pick (Runs c n) (c .full)
+    (λ f.
+    pick (Runs c n) (eqb (c .mode) 0) (λ m. goes0 c f m s n)
+    (λ m. pick (Runs c n) (eqb (c .mode) 2) (λ k. goes2 c f m k s n) (λ k. rests c n (rw (f, m, k)))))
+    (λ f. rests c n (rw f))
+
+-- Each pulse makes OUT rise once at most.
+rise-small : (was now : Bool) → riseOf was now ≤ 1
+rise-small true now = omega arith
+rise-small false true = omega arith
+rise-small false false = omega arith
+
+few-rises : (c : Counter) (n : ℕ) → ranOf c n .rises ≤ n
+unfolding ranOf
+few-rises c zero = omega arith
+few-rises c (suc n) =
+    let r = ranOf c n in
+    let h = few-rises c n in
+    omega (arith, rise-small (r .counter .out) (pulseOf (r .counter) .out))
+
+module _ (c : Counter) (n : ℕ) where
+  pub runs : ranFirst c (steadyOf (pulseOf c) n) ≡ ranOf c (n + 1)
+  runs = rw add-one (ap (ranFirst c) (goes (pulseOf c) (settles c) n) ∙ first c n)
+
+  pub few : steadyOf (pulseOf c) n .rises ≤ n
+  few = rw (goes (pulseOf c) (settles c) n) (few-rises (pulseOf c) n)
