@@ -1,23 +1,19 @@
 -- An advance: the pulses of the one clock, one by one.
-use Prim.Native.Nat.{ℕ, zero, suc, _+_, _≤_}
-use mathlib.Core.Bool.{Bool}
+use Prim.Native.Nat.{ℕ, zero, suc, _+_}
 use mathlib.Core.List.{List, [], _∷_, _++_}
 use lib.ListN.{getD}
-use Rattle.bits.specs.Choice.{if_then_else_}
 use Rattle.tape.specs.Answers.{twelve, littleOf}
 use Rattle.icu.specs.declared.Icu.{Icu}
 use Rattle.icu.specs.Requests.{linesOf}
 use Rattle.timer.specs.declared.Timer.{Timer}
+use Rattle.timer.specs.Run.{riseOf}
 use Rattle.timer.specs.Timer.{at, pulsesOf}
 use Rattle.board.specs.declared.Board.{Board}
 use Rattle.board.specs.Operations.{Outcome}
 use Rattle.board.specs.declared.Run.{Run}
 use Rattle.board.specs.Wiring.{linesAt}
 
--- A pulse counts for a counter whose OUT it makes rise.
-abbrev pub riseOf : Bool → Bool → ℕ
-riseOf was now = if was then 0 else if now then 1 else 0
-
+-- Counter n's rises with one pulse more.
 abbrev pub roseOf : Run → ℕ → ℕ
 roseOf r n = getD (r .rises) n 0 + riseOf (at (r .timer) n .out) (at (pulsesOf (r .timer)) n .out)
 
@@ -34,12 +30,6 @@ tickOf intp r =
 unfoldable pub advancedOf : ℕ → Timer → Icu → ℕ → Run
 advancedOf intp t c zero = record { timer = t; icu = c; rises = 0 ∷ 0 ∷ 0 ∷ [] }
 advancedOf intp t c (suc n) = tickOf intp (advancedOf intp t c n)
-
--- For the proof that a count fits its number: no rise count is past n.
-pub record Few (r : Run) (n : ℕ) : Type 0 where
-  pub first : getD (r .rises) 0 0 ≤ n
-  pub second : getD (r .rises) 1 0 ≤ n
-  pub third : getD (r .rises) 2 0 ≤ n
 
 -- The payload: three numbers of four bytes, how many pulses made OUT0, OUT1 and OUT2 rise.
 abbrev pub risesPayload : List ℕ → List ℕ

@@ -16,7 +16,7 @@ ghost use Rattle.tape.specs.Answers.{twelve, littleOf, answerOf};
 ghost use Rattle.dma.specs.Report.{told};
 ghost use Rattle.board.specs.Wiring.{linesAt, levelsOf, freshOf, levelsAt, wiredTo};
 ghost use Rattle.board.specs.Operations.{turnOf, flagOf, payloadOf};
-ghost use Rattle.board.specs.Advance.{riseOf, tickOf, advancedOf, risesPayload, Few};
+ghost use Rattle.board.specs.Advance.{advancedOf, risesPayload};
 ghost use Rattle.board.specs.Step.{stepOf, stepMemory};
 ghost use Rattle.board.specs.Records.{recordAt, eightFrom, digitsOf, after, bytesOf, fitting};
 use dma::Dma;
@@ -83,62 +83,43 @@ fn lines_at(intp: u8, timer: Timer) -> u8
     bits::without(intp, 0)
 }
 
-// One where a level rose.
-fn rise(was: bool, now: bool) -> u32
-    ensures { λ r. ⌜ r ≡ riseOf was now ⌝ }
-    ensures { λ r. ⌜ r ≤ 1 ⌝ }
-{
-    if was {
-        return 0;
-    }
-    if now {
-        return 1;
-    }
-    0
-}
-
-// One pulse: OUT0 reaches the interrupt chip after it.
-fn tick(run: Run, intp: u8) -> Run
-    requires { ⌜ Few run 4294967294 ⌝ }
-    ensures { λ r. ⌜ r ≡ tickOf intp run ⌝ }
-{
-    let before = run.timer;
-    let after = before.pulse();
-    let a = before.counters[0];
-    let b = before.counters[1];
-    let c = before.counters[2];
-    let pa = after.counters[0];
-    let pb = after.counters[1];
-    let pc = after.counters[2];
-    let ra = run.rises[0] + rise(a.out, pa.out);
-    let rb = run.rises[1] + rise(b.out, pb.out);
-    let rc = run.rises[2] + rise(c.out, pc.out);
-    let was = lines_at(intp, before);
-    let now = lines_at(intp, after);
-    let icu = run.icu;
-    let next = icu.lines(was, now);
-    Run {
-        timer: after,
-        icu: next,
-        rises: [ra, rb, rc],
-    }
-}
-
-// n pulses, one by one.
+// n pulses, counter by counter. The interrupt chip keeps no more of them than that OUT0 rose.
 fn run_pulses(timer: Timer, icu: Icu, intp: u8, n: u32) -> Run
     ensures { λ r. ⌜ r ≡ advancedOf intp timer icu n ⌝ }
 {
-    let mut run = Run {
-        timer: timer,
-        icu: icu,
-        rises: [0, 0, 0],
-    };
-    let mut i = 0;
-    while i < n {
-        run = tick(run, intp);
-        i += 1;
+    if n == 0 {
+        return Run {
+            timer: timer,
+            icu: icu,
+            rises: [0, 0, 0],
+        };
     }
-    run
+    let a = timer.counters[0];
+    let b = timer.counters[1];
+    let c = timer.counters[2];
+    let ra = a.run(n);
+    let rb = b.run(n);
+    let rc = c.run(n);
+    let na = ra.counter;
+    let nb = rb.counter;
+    let nc = rc.counter;
+    let after = Timer {
+        counters: [na, nb, nc],
+    };
+    let rises = [ra.rises, rb.rises, rc.rises];
+    if 0 < ra.rises {
+        let next = icu.lines(bits::without(intp, 0), bits::with(intp, 0));
+        return Run {
+            timer: after,
+            icu: next,
+            rises: rises,
+        };
+    }
+    Run {
+        timer: after,
+        icu: icu,
+        rises: rises,
+    }
 }
 
 fn flag(k: bool) -> u8

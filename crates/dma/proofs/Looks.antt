@@ -19,9 +19,9 @@ back d s =
       dma = turned (d .channels) (d .serving) (d .channel) (d .first) (s .ends) d;
     }
 
--- whichever of the ten answers of a read it is, by the nine tests
-same-by : (d : Dma) (s u v w x y : ℕ) (r₀ r₁ r₆ r₇ r₈ r₉ rₐ rᵦ rₑ : Bool)
-    → let g =
+-- the ten answers of a read, by its nine tests
+abbrev answers : Dma → ℕ → ℕ → ℕ → ℕ → ℕ → ℕ → Bool → Bool → Bool → Bool → Bool → Bool → Bool → Bool → Bool → Got
+answers d s u v w x y r₀ r₁ r₆ r₇ r₈ r₉ rₐ rᵦ rₑ =
     if r₀ then unread 2 d
     else if r₁ then shows s d
     else if r₆ then shows u d
@@ -32,7 +32,10 @@ same-by : (d : Dma) (s u v w x y : ℕ) (r₀ r₁ r₆ r₇ r₈ r₉ rₐ rᵦ
     else if rᵦ then shows x (turned (d .channels) (d .serving) (d .channel) (d .first) 0 d)
     else if rₑ then unread 4 d
     else shows y d
-    in back d (seenAs g) ≡ g
+
+-- each has the chip with its end bits
+same-by : (d : Dma) (s u v w x y : ℕ) (r₀ r₁ r₆ r₇ r₈ r₉ rₐ rᵦ rₑ : Bool)
+    → back d (seenAs (answers d s u v w x y r₀ r₁ r₆ r₇ r₈ r₉ rₐ rᵦ rₑ)) ≡ answers d s u v w x y r₀ r₁ r₆ r₇ r₈ r₉ rₐ rᵦ rₑ
 same-by d s u v w x y true _ _ _ _ _ _ _ _ = refl
 same-by d s u v w x y false true _ _ _ _ _ _ _ = refl
 same-by d s u v w x y false false true _ _ _ _ _ _ = refl

@@ -1,57 +1,78 @@
-use mathlib.Core.Path.{_≡_, refl, ap, _∙_}
-use Prim.Native.Nat.{ℕ, _-_, _≤_}
-use native.Mathlib.Omega.{arith}
+use mathlib.Core.Path.{_≡_, refl}
+use Prim.Native.Nat.{_<_}
 use borrow.Author.Needs.{needs}
-use Rattle.board.specs.Advance.{advancedOf, tickOf}
-use Rattle.board.proofs.Rises.{few-enough, more}
+use borrow.Author.Tests.{lt-ltb, le-ltb}
+use Rattle.board.specs.Advance.{advancedOf}
+use Rattle.board.proofs.Pulses.{pulses}
 use Rattle.board.proofs.run_pulses.Statement.{statement}
 use Rattle.board.proofs.run_pulses.Tie as tie
 use Rattle.board.proofs.run_pulses.Reads as reads
 use Rattle.board.proofs.run_pulses.Lts as lts
-use Rattle.board.proofs.tick.Reads as tick-reads
+use Rattle.bits.proofs.with.Reads as with-reads
+use Rattle.bits.proofs.without.Reads as without-reads
+use Rattle.icu.proofs.Icu.lines.Reads as lines-reads
+use Rattle.timer.proofs.Counter.run.Reads as run-reads
 
-abbrev Inv-loop : tie.InvT-loop
-Inv-loop intp n run₀ i₀ run i = (i ≤ n) × (run ≡ advancedOf intp (run₀ .timer) (run₀ .icu) i)
-
-abbrev μ-loop : tie.MeasureT-loop
-μ-loop intp n run₀ i₀ run i = n - i
-
--- src/lib.rt:121:5
-loop-holds : tie.Need-loop-holds Inv-loop μ-loop
+returns : tie.Need-returns
 unfolding advancedOf
-loop-holds c = (search needs, refl)
+returns c = rw (c .if1 .taken)
 
--- src/lib.rt:122:9
-tick-requires : tie.Need-tick-requires Inv-loop μ-loop
-tick-requires c κs =
-    let l = c .before .loop in
-    let a = c .before .before .args in
-    few-enough (a .intp) (a .timer) (a .icu) (l .run) (l .i) 4294967294 (l .inv .1) (omega arith)
+element-copy-out-a : tie.Need-element-copy-out-a
+element-copy-out-a c = search needs
 
--- src/lib.rt:123:9
-add-i : tie.Need-add-i Inv-loop μ-loop
-add-i c = omega arith
+element-copy-out-b : tie.Need-element-copy-out-b
+element-copy-out-b c = search needs
 
--- src/lib.rt:121:5
-loop-less : tie.Need-loop-less Inv-loop μ-loop
-loop-less c = omega arith
+element-copy-out-c : tie.Need-element-copy-out-c
+element-copy-out-c c = search needs
 
--- src/lib.rt:121:5
-loop-again : tie.Need-loop-again Inv-loop μ-loop
-loop-again c =
-    let l = c .before .before .loop in
-    let a = c .before .before .before .args in
-    (omega arith, c .tick .ensures ∙ ap (tickOf (a .intp)) (l .inv .1) ∙ more (a .intp) (a .timer) (a .icu) (l .i))
+run-requires : tie.Need-run-requires
+run-requires c κs = search needs
 
--- src/lib.rt:112:1
-returns : tie.Need-returns Inv-loop μ-loop
-returns c =
-    let l = c .before .loop in
-    let a = c .before .before .args in
-    let e : l .i ≡ a .n = omega arith in
-    l .inv .1 ∙ ap (λ (k : ℕ). advancedOf (a .intp) (a .timer) (a .icu) k) e
+run-requires-2 : tie.Need-run-requires-2
+run-requires-2 c κs = search needs
+
+run-requires-3 : tie.Need-run-requires-3
+run-requires-3 c κs = search needs
+
+without-requires : tie.Need-without-requires
+without-requires c κs = search needs
+
+with-requires : tie.Need-with-requires
+with-requires c κs = search needs
+
+lines-requires : tie.Need-lines-requires
+lines-requires c κs = search needs
+
+returns-2 : tie.Need-returns-2
+returns-2 c =
+    let r = c .before .before .before .before .before .before .before .before in
+    let s = r .before .before .before .before .before .before in
+    let a = s .before .args in
+    let byte : a .intp < 256 = search needs in
+    rw (← pulses (a .intp) (a .t1) (a .icu) byte (a .n) (s .if1 .left), ← r .run3 .ensures, ← r .before .run2 .ensures, ← r .before .before .run .ensures, lt-ltb _ _ (c .before .before .before .if2 .taken), ← c .before .before .without .ensures, ← c .before .with .ensures, ← c .lines .ensures)
+
+returns-3 : tie.Need-returns-3
+returns-3 c =
+    let r = c .before .before .before .before .before in
+    let s = r .before .before .before .before .before .before in
+    let a = s .before .args in
+    let byte : a .intp < 256 = search needs in
+    rw (← pulses (a .intp) (a .t1) (a .icu) byte (a .n) (s .if1 .left), ← r .run3 .ensures, ← r .before .run2 .ensures, ← r .before .before .run .ensures, le-ltb _ _ (c .if2 .left))
 
 pub run-pulses-spec : {M : Type 1} → statement M
 run-pulses-spec =
     tie.close
-    (tie.spec Inv-loop μ-loop loop-holds tick-requires add-i loop-less loop-again returns)
+    (tie.spec
+    returns
+    element-copy-out-a
+    element-copy-out-b
+    element-copy-out-c
+    run-requires
+    run-requires-2
+    run-requires-3
+    without-requires
+    with-requires
+    lines-requires
+    returns-2
+    returns-3)
