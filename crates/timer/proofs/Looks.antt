@@ -1,13 +1,18 @@
 -- A read changes nothing of its counter but the latch and the reading place, and one that is refused not even these.
 use mathlib.Core.Bool.{Bool, true, false, true≢false}
 use mathlib.Core.Path.{_≡_, refl, sym, ap, _∙_}
+use mathlib.Core.List.{List}
 use Prim.Native.Nat.{ℕ, _/_, _%_}
 use borrow.Author.Tests.{ne-eqb}
 use lib.Dec.{eqb}
+use lib.ListN.{getD, set, List·getD-map}
+use lib.Seq.{set-getD, map-set-same}
 use Rattle.bits.specs.Choice.{if_then_else_}
 use Rattle.timer.specs.Fields.{latched-is, second-is}
 use Rattle.timer.specs.Ports.{Answer, refused, read-as, toldShown, moded, held, readOf, seenAs, seenOf}
+use Rattle.timer.specs.Timer.{at, blank, counter-is, got, gotBy, readsOf}
 use Rattle.timer.specs.declared.Counter.{Counter}
+use Rattle.timer.specs.declared.Timer.{Timer}
 use Rattle.timer.specs.declared.Seen.{Seen}
 use Rattle.timer.specs.declared.Shown.the-variants.{Byte, Modeless}
 
@@ -64,3 +69,29 @@ module _ (c : Counter) where
   pub hidden : (s : Seen) → s ≡ seenOf c → (s .status ≡ 0 → ⊥) → toldShown c Modeless ≡ readOf c
   unfolding toldShown seenOf
   hidden s e z = sym (unread (ap (λ (x : Seen). eqb (x .status) 0) (sym e) ∙ ne-eqb _ _ z))
+
+-- The timer's answer by what was seen of counter n, and with no status but 0 the timer is as it was.
+module _ (t : Timer) (p n : ℕ) (en : n ≡ p % 4) (counter : eqb (p % 4) 3 ≡ false) (s : Seen) (es : s ≡ seenOf (at t n)) where
+  pub got-seen : readsOf t p ≡ got (s .status) (s .byte) (counter-is n (back (at t n) s .counter) t)
+  unfolding readsOf gotBy
+  got-seen = rw (counter, ← en) (ap (λ (a : Answer). got (a .status) (a .byte) (counter-is n (a .counter) t)) (sym (put-back (at t n) s es)))
+
+  none-seen : eqb (s .status) 0 ≡ false → back (at t n) s ≡ refused 3 (at t n)
+  unfolding seenOf
+  none-seen z =
+      put-back (at t n) s es ∙ unread (at t n) (ap (λ (x : Seen). eqb (x .status) 0) (sym es) ∙ z)
+
+  pub none-changed : eqb (s .status) 0 ≡ false → counter-is n (back (at t n) s .counter) t ≡ t
+  none-changed z =
+      ap (λ (a : Answer). counter-is n (a .counter) t) (none-seen z)
+      ∙ ap (λ (l : List Counter). record { counters = l }) (set-getD (t .counters) n blank)
+
+  pub none-shown : eqb (s .status) 0 ≡ false → s .byte ≡ 0
+  none-shown z = ap (λ (a : Answer). a .byte) (none-seen z)
+
+-- OUT is as it was, of the counter that was read and of the others.
+pub same-out : (t : Timer) (n : ℕ) (s : Seen) (k : ℕ) → at (counter-is n (back (at t n) s .counter) t) k .out ≡ at t k .out
+same-out t n s k =
+    sym (List·getD-map (λ (c : Counter). c .out) (set (t .counters) n (back (at t n) s .counter)) k blank)
+    ∙ ap (λ (x : List Bool). getD x k false) (map-set-same (λ (c : Counter). c .out) (t .counters) n (back (at t n) s .counter) blank refl)
+    ∙ List·getD-map (λ (c : Counter). c .out) (t .counters) k blank

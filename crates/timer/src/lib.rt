@@ -5,7 +5,7 @@ ghost use Rattle.timer.specs.Ports.{resetOf, toldWrote, toldShown, moded
 ghost use Rattle.timer.specs.Pulse.{transferred, pulse0, pulse2, pulseOf, gateOf};
 ghost use Rattle.timer.specs.Run.{riseOf, ranOf};
 ghost use Rattle.timer.specs.Steady.{moved, fall0, fall2, fellOf, fallenTo, rested, steadyOf};
-ghost use Rattle.timer.specs.Timer.{at, resetsOf, wroteBy, gotBy, controlsOf, writesOf, readsOf, gatesOf, outsOf};
+ghost use Rattle.timer.specs.Timer.{at, resetsOf, wroteBy, gotBy, controlsOf, writesOf, readsOf, pulsesOf, gatesOf, outsOf};
 
 #[repr(C)]
 pub struct Counter {

@@ -1,14 +1,15 @@
 -- What a record asks for, with the bytes that it asks by.
-use mathlib.Core.Path.{_≡_, refl}
+use mathlib.Core.Path.{_≡_, refl, sym, ap, subst, _∙_}
 use mathlib.Core.List.{List}
 use mathlib.Core.Bool.{Bool, true, false}
-use Prim.Native.Nat.{ℕ, _%_}
+use Prim.Native.Nat.{ℕ, _/_, _%_, _<_}
 use lib.Dec.{eqb, ltb, leb}
-use Rattle.bits.specs.Choice.{if_then_else_}
+use Rattle.bits.specs.Choice.{if_then_else_, _and_, every}
+use Rattle.bits.proofs.Every.{alike}
 use Rattle.tape.specs.declared.Operation.the-variants.{Reset, Write, Read, Intp, Gates, Requests, Acknowledge, Advance, Cycle}
 use Rattle.tape.specs.declared.Decoded.{Decoded}
 use Rattle.tape.specs.declared.Decoded.the-variants.{Asked, Malformed}
 use Rattle.tape.specs.Records.{byte, unused, writable, readable, linesAsked, pulseCount, laterAsked, decodeOf}
 
 -- A record is malformed, or asks for an operation by its number and with the bytes that this operation uses.
 pub data Decodes (r : List ℕ) : Decoded → Type 0 where
@@ -71,3 +72,40 @@ module _ (r : List ℕ) where
       (λ _. either (Decodes r) (eqb (byte r 0) 3)
       (λ o. either (Decodes r) (unused r 3 5) (λ _. lines o) (λ _. malformed))
       (λ _. later))))
+
+-- A read asks for a port that is open to reads; so where it is the timer's, it is a counter's.
+abbrev Open : Decoded → Type 0
+Open Malformed = Unit
+Open (Asked Reset) = Unit
+Open (Asked (Write p x)) = Unit
+Open (Asked (Read p)) = readable p ≡ true
+Open (Asked (Intp l)) = Unit
+Open (Asked (Gates l)) = Unit
+Open (Asked (Requests l)) = Unit
+Open (Asked Acknowledge) = Unit
+Open (Asked (Advance n)) = Unit
+Open (Asked (Cycle e x)) = Unit
+
+opened : (r : List ℕ) (d : Decoded) → Decodes r d → Open d
+opened r _ malformed = tt
+opened r _ (reset _) = tt
+opened r _ (write _ _) = tt
+opened r _ (read _ h) = h
+opened r _ (intp _ _) = tt
+opened r _ (gates _ _) = tt
+opened r _ (requests _ _) = tt
+opened r _ (acknowledge _) = tt
+opened r _ (advance _ _) = tt
+opened r _ (cycle _) = tt
+
+control : (p : ℕ) → p < 256 → (readable p and eqb (p / 16) 1 and eqb (p % 4) 3) ≡ false
+unfolding readable every
+control p h = alike (λ p. readable p and eqb (p / 16) 1 and eqb (p % 4) 3) (λ p. false) 256 tt p h
+
+pub read-counter : (r : List ℕ) (p : ℕ) → p < 256 → decodeOf r ≡ Asked (Read p) → eqb (p / 16) 1 ≡ true → eqb (p % 4) 3 ≡ false
+read-counter r p h e chip =
+    let o : readable p ≡ true = subst Open e (opened r (decodeOf r) (decodes r)) in
+    third (readable p) (eqb (p / 16) 1) (eqb (p % 4) 3) o chip (control p h)
+  where
+    third : (a b c : Bool) → a ≡ true → b ≡ true → (a and b and c) ≡ false → c ≡ false
+    third a b c ha hb q = sym (ap (λ (x : Bool). x and c) hb) ∙ sym (ap (λ (x : Bool). x and b and c) ha) ∙ q

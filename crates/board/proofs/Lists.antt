@@ -1,26 +1,10 @@
--- Laws on lists: the kept bytes with a tape after them, and answers put one after another.
-use mathlib.Core.Path.{_≡_, refl, ap, sym, _∙_}
-use mathlib.Core.List.{List, [], _∷_, _++_, append-nil}
-use Prim.Native.Nat.{ℕ, _+_, _*_, _-_, _≤_, _<_}
+-- Answers put one after another.
+use mathlib.Core.Path.{_≡_, ap, sym, _∙_}
+use mathlib.Core.List.{List, [], _++_, append-nil}
+use Prim.Native.Nat.{ℕ, _+_, _*_}
 use native.Mathlib.Omega.{arith}
-use lib.ListN.{length, take, drop, getD, List·getD-append}
-use lib.Seq.{length-take-le, take-at, getD-take, getD-append-add, drop-append-add, drop-drop, paste, take-append-seam}
-
-module _ (kept tape : List ℕ) (held j : ℕ) (seven : length kept ≡ 7) (few : held ≤ 7) where
-  shortened : length (take held kept) ≡ held
-  shortened = length-take-le held kept (omega arith)
-
-  -- a byte that was kept
-  pub from-kept : j < held → getD kept j 0 ≡ getD (take held kept ++ tape) j 0
-  from-kept l =
-      sym (List·getD-append (take held kept) tape 0 j (omega (arith, shortened)) ∙ getD-take held kept j 0 l)
-
-  -- a byte of the tape, or none
-  pub from-tape : held ≤ j → getD tape (j - held) 0 ≡ getD (take held kept ++ tape) j 0
-  from-tape l =
-      sym
-      (ap (λ (n : ℕ). getD (take held kept ++ tape) n 0) (omega (arith, shortened))
-      ∙ getD-append-add (take held kept) tape (j - held) 0)
+use lib.ListN.{length, take, drop}
+use lib.Seq.{take-at, drop-append-add, drop-drop, paste, take-append-seam}
 
 whole : (a : List ℕ) → length a ≡ 16 → take 16 a ≡ a
 whole a e =

@@ -1,0 +1,293 @@
+-- What each arm of the loop comes to: the step of its record.
+use mathlib.Core.Bool.{Bool, true, false}
+use mathlib.Core.Path.{_≡_, refl, ap, sym, _∙_}
+use mathlib.Core.List.{List, []}
+use Prim.Native.Nat.{ℕ, _/_, _%_}
+use borrow.Author.Tests.{eq-eqb, ne-eqb, eqb-true}
+use lib.Dec.{eqb}
+use lib.ListN.{set}
+use Rattle.bits.specs.Choice.{if_then_else_, _and_}
+use Rattle.tape.specs.Answers.{answerOf, twelve}
+use Rattle.tape.specs.declared.Operation.{Operation}
+use Rattle.tape.specs.declared.Operation.the-variants.{Reset, Write, Read, Intp, Gates, Requests, Acknowledge, Advance, Cycle}
+use Rattle.tape.specs.declared.Decoded.{Decoded}
+use Rattle.tape.specs.declared.Decoded.the-variants.{Asked, Malformed}
+use Rattle.tape.specs.Records.{byte, decodeOf, usesBus}
+use Rattle.icu.specs.declared.Icu.{Icu}
+use Rattle.icu.specs.Answers as IcuAnswers
+use Rattle.icu.specs.Words as IcuWords
+use Rattle.icu.specs.Service as IcuService
+use Rattle.icu.specs.Requests.{irrOf, intOf}
+use Rattle.timer.specs.declared.Timer.{Timer}
+use Rattle.timer.specs.declared.Written as TimerWritten
+use Rattle.timer.specs.declared.Seen as TimerSeen
+use Rattle.timer.specs.Ports.{seenOf}
+use Rattle.timer.specs.Timer.{at, counter-is, resetsOf, outsOf, writesOf, gatesOf}
+use Rattle.timer.proofs.Looks.{back, got-seen, none-changed, none-shown, same-out}
+use Rattle.dma.specs.declared.Dma.{Dma}
+use Rattle.dma.specs.declared.Written as DmaWritten
+use Rattle.dma.specs.declared.Got.{Got}
+use Rattle.dma.specs.declared.Seen as DmaSeen
+use Rattle.dma.specs.Registers as DmaRegisters
+use Rattle.dma.specs.Report.{Told}
+use Rattle.dma.proofs.Looks as DmaLooks
+use Rattle.dma.specs.Cycle as DmaCycle
+use Rattle.board.specs.declared.Board.{Board}
+use Rattle.board.specs.declared.Stepped.{Stepped}
+use Rattle.board.specs.declared.Turn.{Turn}
+use Rattle.board.specs.declared.Wired.{Wired}
+use Rattle.board.specs.declared.Run.{Run}
+use Rattle.board.specs.Wiring.{icu-is, timer-is, dma-is, lines, linesAt, levelsOf, levelsAt, resetOf, rewired, wiredTo}
+use Rattle.board.specs.Operations.{Outcome, done, telling, refused, icuTold, turnOf, a0, icuWritten, icuShown, acknowledged, timerWritten, timerShown, dmaWritten, dmaShown, writeOf, readOf, payloadOf, cycleOf, cycleMemory}
+use Rattle.board.specs.Advance.{advancedOf, risesPayload, advanceOf}
+use Rattle.board.specs.Step.{executeOf, memoryAfter, blocked, outcomeOf, memoryOf, answeredOf, stepOf, stepMemory}
+
+-- A read leaves the interrupt chip as it was.
+read-leaves : (c : Icu) (k : Bool) (x : ℕ) → IcuService.readOf c k x .icu ≡ c
+unfolding IcuService.readOf
+read-leaves c k x = by (IcuWords.ready c) k (c .showsisr)
+  where
+    by : (p q s : Bool)
+        → (if p then (if q then IcuAnswers.telling c (c .imr) else if s then IcuAnswers.telling c (c .isr) else IcuAnswers.telling c (irrOf c x)) else IcuAnswers.refused 3 c) .icu
+        ≡ c
+    by true true s = refl
+    by true false true = refl
+    by true false false = refl
+    by false q s = refl
+
+-- A turn of the loop over the record r that leaves board b′, memory m′ and levels l and puts the answer x does what the record's step does.
+abbrev pub Turned : Board → List ℕ → List ℕ → Board → List ℕ → ℕ → List ℕ → Type 0
+Turned b r m b′ m′ l x =
+    (b′ ≡ stepOf b r m .board) × (m′ ≡ stepMemory b r m) × (x ≡ stepOf b r m .answer) × (l ≡ levelsOf b′)
+
+module _ (b : Board) where
+  -- what a chip shows is told, or refused by number with nothing shown and nothing changed
+  shown-as : (s : ℕ) (b′ : Board) (x : ℕ) (q : Bool) → eqb s 0 ≡ q
+      → (eqb s 0 ≡ false → (b′ ≡ b) × (x ≡ 0))
+      → (if q then telling b′ x else refused s b) ≡ record { status = s; board = b′; byte = x; payload = twelve [] }
+  shown-as s b′ x true e h = ap (λ (n : ℕ). record { status = n; board = b′; byte = x; payload = twelve [] }) (sym (eqb-true s 0 e))
+  shown-as s b′ x false e h =
+      let k = h e in
+      ap (λ (z : Board). record { status = s; board = z; byte = 0; payload = twelve [] }) (sym (k .0))
+      ∙ ap (λ (z : ℕ). record { status = s; board = b′; byte = z; payload = twelve [] }) (sym (k .1))
+
+module _ (b : Board) (r m : List ℕ) (l : ℕ) (el : l ≡ levelsOf b) where
+  -- an answer with no data, and none but its status
+  abbrev plainly : ℕ → ℕ → List ℕ
+  plainly s n = answerOf s (byte r 0) 0 n (twelve [])
+
+  pub malformed : decodeOf r ≡ Malformed → Turned b r m b m l (plainly 2 l)
+  unfolding stepOf stepMemory answeredOf outcomeOf memoryOf
+  malformed e = rw (e, el) (refl, refl, refl, refl)
+
+  module _ (o : Operation) (e : decodeOf r ≡ Asked o) where
+    pub held-up : (b .dma .serving and usesBus o) ≡ true → Turned b r m b m l (plainly 1 l)
+    unfolding stepOf stepMemory answeredOf outcomeOf memoryOf blocked
+    held-up h = rw (e, h, el) (refl, refl, refl, refl)
+
+    module _ (free : (b .dma .serving and usesBus o) ≡ false) where
+      asked : stepOf b r m ≡ answeredOf (byte r 0) (executeOf b o m)
+      unfolding stepOf outcomeOf blocked
+      asked = rw (e, free)
+
+      asked-memory : stepMemory b r m ≡ memoryAfter b o m
+      unfolding stepMemory memoryOf blocked
+      asked-memory = rw (e, free)
+
+      -- what the operation comes to, with the levels after it
+      carried : (out : Outcome) (m′ : List ℕ) (n : ℕ)
+          → executeOf b o m ≡ out
+          → memoryAfter b o m ≡ m′
+          → n ≡ levelsOf (out .board)
+          → Turned b r m (out .board) m′ n (answerOf (out .status) (byte r 0) (out .byte) n (out .payload))
+      unfolding answeredOf
+      carried out m′ n eo em en =
+          let s : stepOf b r m ≡ answeredOf (byte r 0) out = asked ∙ ap (λ (y : Outcome). answeredOf (byte r 0) y) eo in (
+            ap (λ (y : Stepped). y .board) (sym s),
+            sym (asked-memory ∙ em),
+            ap (λ (k : ℕ). answerOf (out .status) (byte r 0) (out .byte) k (out .payload)) en
+                ∙ ap (λ (y : Stepped). y .answer) (sym s),
+            en,
+          )
+
+      pub reset : o ≡ Reset
+          → (c : Icu) (t : Timer) (d : Dma) → c ≡ IcuWords.resetOf → t ≡ resetsOf → d ≡ DmaRegisters.resetOf
+          → Turned b r m (record { icu = c; intp = 0; timer = t; dma = d; kept = b .kept }) m 0 (plainly 0 0)
+      unfolding executeOf memoryAfter levelsOf intOf IcuWords.resetOf outsOf resetsOf
+      reset v c t d ec et ed =
+          rw (ec, et, ed) (carried (done (resetOf b)) m 0 (ap (λ (k : Operation). executeOf b k m) v) (ap (λ (k : Operation). memoryAfter b k m) v) refl)
+
+      -- the interrupt chip's turn: a write, an acknowledge
+      turned-icu : (t : IcuAnswers.Told) → executeOf b o m ≡ icuTold b t → memoryAfter b o m ≡ m
+          → (w : Turn) (n : ℕ) → w ≡ turnOf t → n ≡ levelsAt (w .icu) (b .intp) (b .timer)
+          → Turned b r m (icu-is (w .icu) b) m n (answerOf (w .status) (byte r 0) (w .byte) n (w .payload))
+      unfolding levelsOf
+      turned-icu t ex em w n ew en =
+          carried (record { status = w .status; board = icu-is (w .icu) b; byte = w .byte; payload = w .payload }) m n
+          (ex ∙ ap (λ (z : Turn). record { status = z .status; board = icu-is (z .icu) b; byte = z .byte; payload = z .payload }) (sym ew)) em en
+
+      module _ (p x : ℕ) (v : o ≡ Write p x) where
+        wrote : executeOf b o m ≡ writeOf b p x
+        unfolding executeOf
+        wrote = ap (λ (k : Operation). executeOf b k m) v
+
+        wrote-none : memoryAfter b o m ≡ m
+        unfolding memoryAfter
+        wrote-none = ap (λ (k : Operation). memoryAfter b k m) v
+
+        pub wrote-icu : p / 16 ≡ 0
+            → (w : Turn) (n : ℕ) → w ≡ turnOf (IcuWords.writeOf (b .icu) (a0 p) x) → n ≡ levelsAt (w .icu) (b .intp) (b .timer)
+            → Turned b r m (icu-is (w .icu) b) m n (answerOf (w .status) (byte r 0) (w .byte) n (w .payload))
+        unfolding writeOf
+        wrote-icu q = turned-icu (icuWritten b (a0 p) x) (wrote ∙ rw (eq-eqb _ _ q)) wrote-none
+
+        -- refused, by either of the other chips: nothing changes
+        pub wrote-nothing : (s : ℕ) → writeOf b p x ≡ refused s b → Turned b r m b m l (plainly s l)
+        wrote-nothing s e = carried (refused s b) m l (wrote ∙ e) wrote-none el
+
+        module _ (q₀ : p / 16 ≡ 0 → ⊥) (q₁ : p / 16 ≡ 1) (w : TimerWritten.Written) (ew : w ≡ writesOf (b .timer) p x) where
+          to-timer : writeOf b p x ≡ timerWritten b p x
+          unfolding writeOf
+          to-timer = rw (ne-eqb _ _ q₀, eq-eqb _ _ q₁)
+
+          pub wrote-timer : w .status ≡ 0
+              → (d : Wired) → d ≡ wiredTo (b .icu) (lines b) (b .intp) (w .timer)
+              → Turned b r m (record { icu = d .icu; intp = b .intp; timer = w .timer; dma = b .dma; kept = b .kept }) m (d .levels) (plainly 0 (d .levels))
+          unfolding timerWritten rewired levelsOf
+          wrote-timer z d ed =
+              rw (ed, ew) (carried (done (rewired (b .intp) (writesOf (b .timer) p x .timer) b)) m _ (wrote ∙ to-timer ∙ rw (← ew, eq-eqb _ _ z)) wrote-none refl)
+
+          pub refused-timer : (w .status ≡ 0 → ⊥) → Turned b r m b m l (plainly (w .status) l)
+          unfolding timerWritten
+          refused-timer z = wrote-nothing (w .status) (to-timer ∙ rw (← ew, ne-eqb _ _ z))
+
+        module _ (q₀ : p / 16 ≡ 0 → ⊥) (q₁ : p / 16 ≡ 1 → ⊥) (w : DmaWritten.Written) (ew : w ≡ DmaRegisters.writeOf (b .dma) p x) where
+          to-dma : writeOf b p x ≡ dmaWritten b p x
+          unfolding writeOf
+          to-dma = rw (ne-eqb _ _ q₀, ne-eqb _ _ q₁)
+
+          pub wrote-dma : w .status ≡ 0 → Turned b r m (dma-is (w .dma) b) m l (plainly 0 l)
+          unfolding dmaWritten levelsOf
+          wrote-dma z =
+              carried (done (dma-is (w .dma) b)) m l (wrote ∙ to-dma ∙ rw (← ew, eq-eqb _ _ z)) wrote-none el
+
+          pub refused-dma : (w .status ≡ 0 → ⊥) → Turned b r m b m l (plainly (w .status) l)
+          unfolding dmaWritten
+          refused-dma z = wrote-nothing (w .status) (to-dma ∙ rw (← ew, ne-eqb _ _ z))
+
+      module _ (p : ℕ) (v : o ≡ Read p) where
+        looked : executeOf b o m ≡ readOf b p
+        unfolding executeOf
+        looked = ap (λ (k : Operation). executeOf b k m) v
+
+        looked-none : memoryAfter b o m ≡ m
+        unfolding memoryAfter
+        looked-none = ap (λ (k : Operation). memoryAfter b k m) v
+
+        module _ (q : p / 16 ≡ 0) where
+          to-icu : readOf b p ≡ icuTold b (icuShown b (a0 p))
+          unfolding readOf
+          to-icu = rw (eq-eqb _ _ q)
+
+        pub read-icu : p / 16 ≡ 0
+            → (w : Turn) → w ≡ turnOf (IcuService.readOf (b .icu) (a0 p) (lines b))
+            → Turned b r m b m l (answerOf (w .status) (byte r 0) (w .byte) l (w .payload))
+        read-icu q w ew =
+            let t = icuShown b (a0 p) in
+            carried (record { status = w .status; board = b; byte = w .byte; payload = w .payload }) m l
+            (looked ∙ to-icu q
+            ∙ ap (λ (z : Icu). record { status = t .status; board = icu-is z b; byte = t .byte; payload = twelve (t .payload) }) (read-leaves (b .icu) (a0 p) (lines b))
+            ∙ ap (λ (z : Turn). record { status = z .status; board = b; byte = z .byte; payload = z .payload }) (sym ew))
+            looked-none
+            el
+
+        same-levels : (n : ℕ) (s : TimerSeen.Seen)
+            → levelsOf b ≡ levelsOf (timer-is (counter-is n (back (at (b .timer) n) s .counter) (b .timer)) b)
+        unfolding levelsOf linesAt outsOf
+        same-levels n s = rw (same-out (b .timer) n s 0, same-out (b .timer) n s 1, same-out (b .timer) n s 2)
+
+        pub read-timer : (q₀ : p / 16 ≡ 0 → ⊥) (q₁ : p / 16 ≡ 1) (q₃ : eqb (p % 4) 3 ≡ false)
+            → (n : ℕ) → n ≡ p % 4
+            → (s : TimerSeen.Seen) → s ≡ seenOf (at (b .timer) n)
+            → Turned b r m (timer-is (counter-is n (back (at (b .timer) n) s .counter) (b .timer)) b) m l (answerOf (s .status) (byte r 0) (s .byte) l (twelve []))
+        unfolding readOf timerShown
+        read-timer q₀ q₁ q₃ n en s es =
+            let t′ = counter-is n (back (at (b .timer) n) s .counter) (b .timer) in
+            carried (record { status = s .status; board = timer-is t′ b; byte = s .byte; payload = twelve [] }) m l
+            (looked
+            ∙ rw (ne-eqb _ _ q₀, eq-eqb _ _ q₁, got-seen (b .timer) p n en q₃ s es)
+            (shown-as b (s .status) (timer-is t′ b) (s .byte) (eqb (s .status) 0) refl
+            (λ z. (ap (λ (k : Timer). timer-is k b) (none-changed (b .timer) p n en q₃ s es z), none-shown (b .timer) p n en q₃ s es z))))
+            looked-none
+            (el ∙ same-levels n s)
+
+        pub read-dma : (q₀ : p / 16 ≡ 0 → ⊥) (q₁ : p / 16 ≡ 1 → ⊥)
+            → (s : DmaSeen.Seen) → s ≡ DmaRegisters.seenOf (b .dma) p
+            → Turned b r m (dma-is (DmaLooks.back (b .dma) s .dma) b) m l (answerOf (s .status) (byte r 0) (s .byte) l (twelve []))
+        unfolding readOf dmaShown levelsOf
+        read-dma q₀ q₁ s es =
+            let d = b .dma in
+            let g = DmaRegisters.readOf d p in
+            let e = DmaLooks.put-back d p s es in
+            carried (record { status = s .status; board = dma-is (DmaLooks.back d s .dma) b; byte = s .byte; payload = twelve [] }) m l
+            (looked
+            ∙ rw (ne-eqb _ _ q₀, ne-eqb _ _ q₁, ← e)
+            (shown-as b (s .status) (dma-is (DmaLooks.back d s .dma) b) (s .byte) (eqb (s .status) 0) refl
+            (λ z.
+            let u = e ∙ DmaLooks.unread-leaves d p (ap (λ (k : Got). eqb (k .status) 0) (sym e) ∙ z) in
+            (ap (λ (k : Got). dma-is (k .dma) b) u, ap (λ (k : Got). k .byte) u))))
+            looked-none
+            el
+
+      -- other lines, or other gates: the interrupt chip sees what changed
+      pub intp : (x : ℕ) → o ≡ Intp x → (d : Wired) → d ≡ wiredTo (b .icu) (lines b) x (b .timer)
+          → Turned b r m (record { icu = d .icu; intp = x; timer = b .timer; dma = b .dma; kept = b .kept }) m (d .levels) (plainly 0 (d .levels))
+      unfolding executeOf memoryAfter rewired levelsOf
+      intp x v d ed =
+          rw ed (carried (done (rewired x (b .timer) b)) m _ (ap (λ (k : Operation). executeOf b k m) v) (ap (λ (k : Operation). memoryAfter b k m) v) refl)
+
+      pub gates : (x : ℕ) → o ≡ Gates x → (t : Timer) → t ≡ gatesOf (b .timer) x → (d : Wired) → d ≡ wiredTo (b .icu) (lines b) (b .intp) t
+          → Turned b r m (record { icu = d .icu; intp = b .intp; timer = t; dma = b .dma; kept = b .kept }) m (d .levels) (plainly 0 (d .levels))
+      unfolding executeOf memoryAfter rewired levelsOf
+      gates x v t et d ed =
+          rw (ed, et) (carried (done (rewired (b .intp) (gatesOf (b .timer) x) b)) m _ (ap (λ (k : Operation). executeOf b k m) v) (ap (λ (k : Operation). memoryAfter b k m) v) refl)
+
+      pub requests : (x : ℕ) → o ≡ Requests x → (d : Dma) → d ≡ DmaRegisters.requestedOf (b .dma) x → Turned b r m (dma-is d b) m l (plainly 0 l)
+      unfolding executeOf memoryAfter levelsOf
+      requests x v d ed =
+          carried (done (dma-is d b)) m l
+          (ap (λ (k : Operation). executeOf b k m) v ∙ ap (λ (z : Dma). done (dma-is z b)) (sym ed)) (ap (λ (k : Operation). memoryAfter b k m) v) el
+
+      pub acknowledge : o ≡ Acknowledge
+          → (w : Turn) (n : ℕ) → w ≡ turnOf (IcuService.acknowledgeOf (b .icu) (lines b)) → n ≡ levelsAt (w .icu) (b .intp) (b .timer)
+          → Turned b r m (icu-is (w .icu) b) m n (answerOf (w .status) (byte r 0) (w .byte) n (w .payload))
+      unfolding executeOf memoryAfter
+      acknowledge v =
+          turned-icu (acknowledged b) (ap (λ (k : Operation). executeOf b k m) v) (ap (λ (k : Operation). memoryAfter b k m) v)
+
+      pub advance : (k : ℕ) → o ≡ Advance k
+          → (a : Run) (n : ℕ) (p : List ℕ) → a ≡ advancedOf (b .intp) (b .timer) (b .icu) k → n ≡ levelsAt (a .icu) (b .intp) (a .timer)
+          → p ≡ twelve (risesPayload (a .rises))
+          → Turned b r m (record { icu = a .icu; intp = b .intp; timer = a .timer; dma = b .dma; kept = b .kept }) m n (answerOf 0 (byte r 0) 0 n p)
+      unfolding executeOf memoryAfter advanceOf levelsOf
+      advance k v a n p ea en ep =
+          rw ep
+          (carried (record { status = 0; board = record { icu = a .icu; intp = b .intp; timer = a .timer; dma = b .dma; kept = b .kept }; byte = 0; payload = twelve (risesPayload (a .rises)) }) m n
+          (ap (λ (z : Operation). executeOf b z m) v
+          ∙ ap (λ (z : Run). record { status = 0; board = record { icu = z .icu; intp = b .intp; timer = z .timer; dma = b .dma; kept = b .kept }; byte = 0; payload = twelve (risesPayload (z .rises)) }) (sym ea))
+          (ap (λ (z : Operation). memoryAfter b z m) v) en)
+
+      -- a DMA cycle by what it reports
+      pub cycle : (e : Bool) (x : ℕ) → o ≡ Cycle e x
+          → (d : Dma) (t : Told) (m′ p : List ℕ) (k : ℕ)
+          → record { dma = d; memory = m′; report = t } ≡ DmaCycle.cycleOf (b .dma) e x m
+          → k ≡ t .byte
+          → p ≡ twelve (payloadOf t)
+          → Turned b r m (dma-is d b) m′ l (answerOf 0 (byte r 0) k l p)
+      unfolding executeOf memoryAfter cycleOf cycleMemory levelsOf
+      cycle e x v d t m′ p k ec ek ep =
+          rw (ek, ep)
+          (carried (record { status = 0; board = dma-is d b; byte = t .byte; payload = twelve (payloadOf t) }) m′ l
+          (ap (λ (z : Operation). executeOf b z m) v
+          ∙ ap (λ (z : DmaCycle.Out). record { status = 0; board = dma-is (z .dma) b; byte = z .report .byte; payload = twelve (payloadOf (z .report)) }) (sym ec))
+          (ap (λ (z : Operation). memoryAfter b z m) v ∙ ap (λ (z : DmaCycle.Out). z .memory) (sym ec)) el)

@@ -1,0 +1,59 @@
+-- Laws of a run of records, which the loop's proof cites.
+use mathlib.Core.Path.{_≡_, refl, ap, sym, _∙_}
+use mathlib.Core.List.{List, _++_}
+use Prim.Native.Nat.{ℕ, zero, suc, _+_, _*_, _≤_, _<_}
+use native.Mathlib.Numerals.{add-one}
+use native.Mathlib.Omega.{arith}
+use lib.ListN.{length, drop, length-append}
+use lib.Seq.{paste}
+use Rattle.tape.specs.Answers.{answerOf}
+use Rattle.board.specs.declared.Board.{Board}
+use Rattle.board.specs.declared.Stepped.{Stepped}
+use Rattle.board.specs.Wiring.{levelsOf}
+use Rattle.board.specs.Step.{stepOf, stepMemory, answeredOf}
+use Rattle.board.specs.Records.{Run, after, next, recordAt}
+use Rattle.board.proofs.Lists.{put-next}
+
+-- every answer is sixteen bytes
+pub sixteen : (b : Board) (r m : List ℕ) → length (stepOf b r m .answer) ≡ 16
+unfolding stepOf answeredOf answerOf
+sixteen b r m = refl
+
+module _ (b : Board) (m t : List ℕ) where
+  -- one record more
+  pub more : (i : ℕ) → after b m t (i + 1) ≡ next (after b m t i) (recordAt t i)
+  unfolding after
+  more i = rw add-one
+
+  pub answered : (i : ℕ) → length (after b m t i .answers) ≡ 16 * i
+  unfolding after
+  answered zero = refl
+  answered (suc i) =
+      let s = after b m t i in
+      length-append (s .answers) (stepOf (s .board) (recordAt t i) (s .memory) .answer)
+      ∙ omega (arith, answered i, sixteen (s .board) (recordAt t i) (s .memory))
+
+  -- one record more, and its answer put after those before it
+  pub turn : (i : ℕ) (n n′ : Board) (mem r mem′ a a′ a₀ x : List ℕ)
+      → n ≡ after b m t i .board
+      → mem ≡ after b m t i .memory
+      → a ≡ after b m t i .answers ++ drop (16 * i) a₀
+      → r ≡ recordAt t i
+      → n′ ≡ stepOf n r mem .board
+      → mem′ ≡ stepMemory n r mem
+      → x ≡ stepOf n r mem .answer
+      → a′ ≡ paste a (16 * i) x 16
+      → (n′ ≡ after b m t (i + 1) .board)
+      × (mem′ ≡ after b m t (i + 1) .memory)
+      × (a′ ≡ after b m t (i + 1) .answers ++ drop (16 * (i + 1)) a₀)
+  turn i n n′ mem r mem′ a a′ a₀ x en em ea er en′ em′ ex ea′ =
+      let s = stepOf (after b m t i .board) (recordAt t i) (after b m t i .memory) in
+      let q : stepOf n r mem ≡ s = cc in
+      rw (more i) (
+        en′ ∙ ap (λ (y : Stepped). y .board) q,
+        cc,
+        ea′
+            ∙ ap (λ (l : List ℕ). paste l (16 * i) x 16) ea
+            ∙ ap (λ (y : List ℕ). paste (after b m t i .answers ++ drop (16 * i) a₀) (16 * i) y 16) (ex ∙ ap (λ (y : Stepped). y .answer) q)
+            ∙ put-next (after b m t i .answers) a₀ (s .answer) i (answered i) (sixteen _ _ _),
+      )
