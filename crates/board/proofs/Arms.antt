@@ -1,13 +1,14 @@
 -- What each arm of the loop comes to: the step of its record.
 use mathlib.Core.Bool.{Bool, true, false}
 use mathlib.Core.Path.{_≡_, refl, ap, sym, _∙_}
-use mathlib.Core.List.{List, []}
+use mathlib.Core.List.{List, [], _∷_}
 use Prim.Native.Nat.{ℕ, _/_, _%_}
-use borrow.Author.Tests.{eq-eqb, ne-eqb, eqb-true}
+use native.Mathlib.Omega.{arith}
+use borrow.Author.Tests.{eq-eqb, ne-eqb, eqb-true, eqb-false}
 use lib.Dec.{eqb}
 use lib.ListN.{set}
 use Rattle.bits.specs.Choice.{if_then_else_, _and_}
-use Rattle.tape.specs.Answers.{answerOf, twelve}
+use Rattle.tape.specs.Answers.{answerOf, littleOf, twelve}
 use Rattle.tape.specs.declared.Operation.{Operation}
 use Rattle.tape.specs.declared.Operation.the-variants.{Reset, Write, Read, Intp, Gates, Requests, Acknowledge, Advance, Cycle}
 use Rattle.tape.specs.declared.Decoded.{Decoded}
@@ -29,7 +30,12 @@ use Rattle.dma.specs.declared.Written as DmaWritten
 use Rattle.dma.specs.declared.Got.{Got}
 use Rattle.dma.specs.declared.Seen as DmaSeen
 use Rattle.dma.specs.Registers as DmaRegisters
-use Rattle.dma.specs.Report.{Told}
+use Rattle.dma.specs.declared.Channel.{Channel}
+use Rattle.dma.specs.declared.Report.{Report}
+use Rattle.dma.specs.Fields.{chan, channels-are}
+use Rattle.dma.specs.Report.{Told, told, moved}
+use Rattle.dma.specs.Cycle.{plainOf}
+use Rattle.dma.proofs.Plain.{plain}
 use Rattle.dma.proofs.Looks as DmaLooks
 use Rattle.dma.specs.Cycle as DmaCycle
 use Rattle.board.specs.declared.Board.{Board}
@@ -38,7 +44,7 @@ use Rattle.board.specs.declared.Turn.{Turn}
 use Rattle.board.specs.declared.Wired.{Wired}
 use Rattle.board.specs.declared.Run.{Run}
 use Rattle.board.specs.Wiring.{icu-is, timer-is, dma-is, lines, linesAt, levelsOf, levelsAt, resetOf, rewired, wiredTo}
-use Rattle.board.specs.Operations.{Outcome, done, telling, refused, icuTold, turnOf, a0, icuWritten, icuShown, acknowledged, timerWritten, timerShown, dmaWritten, dmaShown, writeOf, readOf, payloadOf, cycleOf, cycleMemory}
+use Rattle.board.specs.Operations.{Outcome, done, telling, refused, icuTold, turnOf, a0, icuWritten, icuShown, acknowledged, timerWritten, timerShown, dmaWritten, dmaShown, writeOf, readOf, flagOf, payloadOf, cycleOf, cycleMemory}
 use Rattle.board.specs.Advance.{advancedOf, risesPayload, advanceOf}
 use Rattle.board.specs.Step.{executeOf, memoryAfter, blocked, outcomeOf, memoryOf, answeredOf, stepOf, stepMemory}
 
@@ -190,14 +196,14 @@ module _ (b : Board) (r m : List ℕ) (l : ℕ) (el : l ≡ levelsOf b) where
           to-icu = rw (eq-eqb _ _ q)
 
         pub read-icu : p / 16 ≡ 0
-            → (w : Turn) → w ≡ turnOf (IcuService.readOf (b .icu) (a0 p) (lines b))
+            → (x : ℕ) → x ≡ lines b → (w : Turn) → w ≡ turnOf (IcuService.readOf (b .icu) (a0 p) x)
             → Turned b r m b m l (answerOf (w .status) (byte r 0) (w .byte) l (w .payload))
-        read-icu q w ew =
+        read-icu q x ex w ew =
             let t = icuShown b (a0 p) in
             carried (record { status = w .status; board = b; byte = w .byte; payload = w .payload }) m l
             (looked ∙ to-icu q
             ∙ ap (λ (z : Icu). record { status = t .status; board = icu-is z b; byte = t .byte; payload = twelve (t .payload) }) (read-leaves (b .icu) (a0 p) (lines b))
-            ∙ ap (λ (z : Turn). record { status = z .status; board = b; byte = z .byte; payload = z .payload }) (sym ew))
+            ∙ ap (λ (z : Turn). record { status = z .status; board = b; byte = z .byte; payload = z .payload }) (sym (ew ∙ ap (λ (z : ℕ). turnOf (IcuService.readOf (b .icu) (a0 p) z)) ex)))
             looked-none
             el
 
@@ -207,11 +213,13 @@ module _ (b : Board) (r m : List ℕ) (l : ℕ) (el : l ≡ levelsOf b) where
         same-levels n s = rw (same-out (b .timer) n s 0, same-out (b .timer) n s 1, same-out (b .timer) n s 2)
 
         pub read-timer : (q₀ : p / 16 ≡ 0 → ⊥) (q₁ : p / 16 ≡ 1) (q₃ : eqb (p % 4) 3 ≡ false)
-            → (n : ℕ) → n ≡ p % 4
+            → (n : ℕ) → n ≡ p % 4 % 3
             → (s : TimerSeen.Seen) → s ≡ seenOf (at (b .timer) n)
             → Turned b r m (timer-is (counter-is n (back (at (b .timer) n) s .counter) (b .timer)) b) m l (answerOf (s .status) (byte r 0) (s .byte) l (twelve []))
         unfolding readOf timerShown
-        read-timer q₀ q₁ q₃ n en s es =
+        read-timer q₀ q₁ q₃ n is s es =
+            let low = eqb-false (p % 4) 3 q₃ in
+            let en : n ≡ p % 4 = omega (arith, is, low) in
             let t′ = counter-is n (back (at (b .timer) n) s .counter) (b .timer) in
             carried (record { status = s .status; board = timer-is t′ b; byte = s .byte; payload = twelve [] }) m l
             (looked
@@ -259,11 +267,12 @@ module _ (b : Board) (r m : List ℕ) (l : ℕ) (el : l ≡ levelsOf b) where
           (ap (λ (k : Operation). executeOf b k m) v ∙ ap (λ (z : Dma). done (dma-is z b)) (sym ed)) (ap (λ (k : Operation). memoryAfter b k m) v) el
 
       pub acknowledge : o ≡ Acknowledge
-          → (w : Turn) (n : ℕ) → w ≡ turnOf (IcuService.acknowledgeOf (b .icu) (lines b)) → n ≡ levelsAt (w .icu) (b .intp) (b .timer)
+          → (x : ℕ) → x ≡ lines b → (w : Turn) (n : ℕ) → w ≡ turnOf (IcuService.acknowledgeOf (b .icu) x) → n ≡ levelsAt (w .icu) (b .intp) (b .timer)
           → Turned b r m (icu-is (w .icu) b) m n (answerOf (w .status) (byte r 0) (w .byte) n (w .payload))
       unfolding executeOf memoryAfter
-      acknowledge v =
-          turned-icu (acknowledged b) (ap (λ (k : Operation). executeOf b k m) v) (ap (λ (k : Operation). memoryAfter b k m) v)
+      acknowledge v x ex w n ew =
+          turned-icu (acknowledged b) (ap (λ (k : Operation). executeOf b k m) v) (ap (λ (k : Operation). memoryAfter b k m) v) w n
+          (ew ∙ ap (λ (z : ℕ). turnOf (IcuService.acknowledgeOf (b .icu) z)) ex)
 
       pub advance : (k : ℕ) → o ≡ Advance k
           → (a : Run) (n : ℕ) (p : List ℕ) → a ≡ advancedOf (b .intp) (b .timer) (b .icu) k → n ≡ levelsAt (a .icu) (b .intp) (a .timer)
@@ -291,3 +300,29 @@ module _ (b : Board) (r m : List ℕ) (l : ℕ) (el : l ≡ levelsOf b) where
           (ap (λ (z : Operation). executeOf b z m) v
           ∙ ap (λ (z : DmaCycle.Out). record { status = 0; board = dma-is (z .dma) b; byte = z .report .byte; payload = twelve (payloadOf (z .report)) }) (sym ec))
           (ap (λ (z : Operation). memoryAfter b z m) v ∙ ap (λ (z : DmaCycle.Out). z .memory) (sym ec)) el)
+
+      pub cycle-by-call : (e : Bool) (x : ℕ) → o ≡ Cycle e x
+          → (d : Dma) (report : Report) (m′ p : List ℕ) (k : ℕ)
+          → d ≡ DmaCycle.cycleOf (b .dma) e x m .dma
+          → told report ≡ DmaCycle.cycleOf (b .dma) e x m .report
+          → m′ ≡ DmaCycle.cycleOf (b .dma) e x m .memory
+          → k ≡ told report .byte
+          → p ≡ twelve (payloadOf (told report))
+          → Turned b r m (dma-is d b) m′ l (answerOf 0 (byte r 0) k l p)
+      cycle-by-call e x v d report m′ p k ed et em ek ep =
+          cycle e x v d (told report) m′ p k (rw (ed, et, em)) ek ep
+
+      -- a plain unit: of the served channel, which is c, the current address and count alone
+      pub plain-unit : (e : Bool) (x : ℕ) → o ≡ Cycle e x
+          → let c = chan (b .dma) (b .dma .channel % 4) in
+          plainOf c (b .dma .serving) (b .dma .channel) (b .dma .requests) e ≡ true
+          → (c′ : Channel) (m′ p : List ℕ) (k : ℕ)
+          → c′ ≡ DmaCycle.movedOf c false
+          → m′ ≡ DmaCycle.memoryOf c m x
+          → k ≡ DmaCycle.byteOf c m x
+          → p ≡ twelve (2 ∷ b .dma .channel ∷ flagOf false ∷ flagOf false ∷ littleOf (c .current .address))
+          → Turned b r m (dma-is (channels-are (set (b .dma .channels) (b .dma .channel % 4) c′) (b .dma)) b) m′ l (answerOf 0 (byte r 0) k l p)
+      plain-unit e x v h c′ m′ p k ec em ek ep =
+          let c = chan (b .dma) (b .dma .channel % 4) in
+          cycle e x v _ (moved (b .dma .channel) false false (c .current .address) (DmaCycle.byteOf c m x)) m′ p k
+          (rw (ec, em) (sym (plain (b .dma) e x m h))) ek ep

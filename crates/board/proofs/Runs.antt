@@ -1,7 +1,7 @@
 -- Laws of a run of records, which the loop's proof cites.
 use mathlib.Core.Path.{_≡_, refl, ap, sym, _∙_}
 use mathlib.Core.List.{List, _++_}
-use Prim.Native.Nat.{ℕ, zero, suc, _+_, _*_, _≤_, _<_}
+use Prim.Native.Nat.{ℕ, zero, suc, _+_, _*_}
 use native.Mathlib.Numerals.{add-one}
 use native.Mathlib.Omega.{arith}
 use lib.ListN.{length, drop, length-append}
@@ -9,7 +9,6 @@ use lib.Seq.{paste}
 use Rattle.tape.specs.Answers.{answerOf}
 use Rattle.board.specs.declared.Board.{Board}
 use Rattle.board.specs.declared.Stepped.{Stepped}
-use Rattle.board.specs.Wiring.{levelsOf}
 use Rattle.board.specs.Step.{stepOf, stepMemory, answeredOf}
 use Rattle.board.specs.Records.{Run, after, next, recordAt}
 use Rattle.board.proofs.Lists.{put-next}

@@ -329,6 +329,8 @@ fn is_blocked(serving: bool, o: Operation) -> bool
 // The lesser of two numbers.
 fn least(a: usize, b: usize) -> usize
     ensures { λ r. ⌜ r ≡ (if ltb b a then b else a) ⌝ }
+    ensures { λ r. ⌜ r ≤ a ⌝ }
+    ensures { λ r. ⌜ r ≤ b ⌝ }
 {
     if b < a {
         return b;
@@ -495,7 +497,7 @@ impl Board {
         let kept = self.kept;
         let bytes = self.kept.bytes;
         let size = self.kept.length;
-        let total = tape::held(size) + tape.len();
+        let total = tape::count_bytes(bytes, size, tape);
         let k = least(total / 8, answers.len() / 16);
         let mut levels = self.levels();
         let mut icu = self.icu;

@@ -50,7 +50,7 @@ same-by d s u v w x y false false false false false false false false false = re
 -- and one that is refused shows nothing and changes nothing
 unread-by : (d : Dma) (s u v w x y : ℕ) (r₀ r₁ r₆ r₇ r₈ r₉ rₐ rᵦ rₑ : Bool)
     → let g = answers d s u v w x y r₀ r₁ r₆ r₇ r₈ r₉ rₐ rᵦ rₑ in
-      eqb (g .status) 0 ≡ false
+    eqb (g .status) 0 ≡ false
     → g ≡ unread (g .status) d
 unread-by d s u v w x y true _ _ _ _ _ _ _ _ h = refl
 unread-by d s u v w x y false true _ _ _ _ _ _ _ h = absurd (true≢false h)

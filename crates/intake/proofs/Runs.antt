@@ -27,4 +27,3 @@ first false b e = e
 pub few-kept : (b : Board) → inRange b ≡ true → b .kept .length ≤ 7
 unfolding inRange
 few-kept b e = let h = ltb-true (b .kept .length) 8 (first _ _ e) in omega arith
-

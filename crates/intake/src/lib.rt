@@ -3,7 +3,6 @@ ghost use mathlib.Core.Path.{_≡_};
 ghost use mathlib.Core.List.{_++_};
 ghost use Prim.Native.Nat.{_+_, _*_, _≤_};
 ghost use lib.ListN.{length, take};
-ghost use Rattle.tape.specs.Records.{heldOf};
 ghost use Rattle.intake.specs.Ranges.{iw1Good, icuGood, counterGood, timerGood, channelGood, channelsGood, dmaGood, inRange};
 ghost use Rattle.intake.specs.Records.{restAt};
 ghost use Rattle.intake.specs.Feed.{fedOf, fedMemory, fedAnswers};
@@ -25,11 +24,11 @@ pub struct Fed {
 
 // The bytes from record i on, which are fewer than eight, and zeros after them. Where none are left, nothing is looked up.
 fn rest_at(kept: [u8; 7], size: u8, tape: &[u8], i: usize) -> [u8; 7]
-    requires { ⌜ 8 * i ≤ heldOf size + length (now tape) ⌝ }
+    requires { ⌜ 8 * i ≤ length (take size kept ++ now tape) ⌝ }
     ensures { λ r. ⌜ r ≡ restAt (take size kept ++ now (tape .entry)) i ⌝ }
 {
     let at = 8 * i;
-    if at == tape::held(size) + tape.len() {
+    if at == tape::count_bytes(kept, size, tape) {
         return [0u8; 7];
     }
     let b0 = tape::byte_at(kept, size, tape, at);
@@ -185,8 +184,9 @@ pub fn feed(board: Board, tape: &[u8], memory: &mut [u8], answers: &mut [u8]) ->
             board: board,
         };
     }
+    let kept = board.kept.bytes;
     let size = board.kept.length;
-    let total = tape::held(size) + tape.len();
+    let total = tape::count_bytes(kept, size, tape);
     let k = total / 8;
     if answers.len() / 16 < k {
         return Fed {
@@ -195,7 +195,6 @@ pub fn feed(board: Board, tape: &[u8], memory: &mut [u8], answers: &mut [u8]) ->
             board: board,
         };
     }
-    let kept = board.kept.bytes;
     let mut next = board.run(tape, memory, answers);
     let rest = rest_at(kept, size, tape, k);
     let waiting = Kept {

@@ -6,7 +6,7 @@ use Prim.Native.Nat.{ℕ, _+_, _-_, _≤_, _<_}
 use native.Mathlib.Omega.{arith}
 use borrow.Author.Tests.{ltb-true, ltb-false}
 use lib.Dec.{ltb}
-use lib.ListN.{length, take, getD, List·getD-append}
+use lib.ListN.{length, take, getD, length-append, List·getD-append}
 use lib.Seq.{length-take-le, take-all, getD-take, getD-append-add}
 use Rattle.bits.specs.Choice.{if_then_else_}
 use Rattle.tape.specs.Records.{heldOf}
@@ -48,3 +48,9 @@ module _ (kept : List ℕ) (n : ℕ) (seven : length kept ≡ 7) where
         sym
         (ap (λ (k : ℕ). getD (take n kept ++ tape) k 0) (let k = shortened in omega (arith, l, k, is))
         ∙ getD-append-add (take n kept) tape (j - h) 0)
+
+  -- all of them
+  pub counted : (h : ℕ) (is : h ≡ heldOf n) (tape : List ℕ) → h + length tape ≡ length (take n kept ++ tape)
+  counted h is tape =
+      let k = shortened in
+      let p = length-append (take n kept) tape in omega (arith, k, p, is)

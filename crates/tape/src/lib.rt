@@ -1,8 +1,8 @@
 // The tape's records of 8 bytes, read as operations, and the answers of 16 bytes.
 ghost use mathlib.Core.Path.{_≡_};
 ghost use mathlib.Core.List.{_++_};
-ghost use Prim.Native.Nat.{_<_, _≤_};
-ghost use lib.ListN.{take, getD};
+ghost use Prim.Native.Nat.{_+_, _<_, _≤_};
+ghost use lib.ListN.{length, take, getD};
 ghost use Rattle.tape.specs.Records.{heldOf, unused, writable, readable, pulseCount, linesAsked, laterAsked, decodeOf, usesBus};
 ghost use Rattle.tape.specs.Answers.{twelve, littleOf, answerOf};
 
@@ -41,22 +41,30 @@ fn wide(x: u8) -> u32
     x as u32
 }
 
-// How many bytes of a cut record are kept; there is room for seven, whatever the length says.
-pub fn held(length: u8) -> usize
-    ensures { λ r. ⌜ r ≡ heldOf length ⌝ }
+// How many bytes of a cut record are kept; there is room for seven, whatever their size is said to be.
+pub fn held(size: u8) -> usize
+    ensures { λ r. ⌜ r ≡ heldOf size ⌝ }
     ensures { λ r. ⌜ r ≤ 7 ⌝ }
 {
-    if 7 < length {
+    if 7 < size {
         return 7;
     }
-    length as usize
+    size as usize
+}
+
+// How many bytes there are to run: those kept, and the tape.
+pub fn count_bytes(kept: [u8; 7], size: u8, tape: &[u8]) -> usize
+    ensures { λ r. ⌜ r ≡ length (take size kept ++ now (tape .entry)) ⌝ }
+    ensures { λ r. ⌜ r ≡ heldOf size + length (now (tape .entry)) ⌝ }
+{
+    held(size) + tape.len()
 }
 
 // Byte j of the kept bytes with the tape after them, 0 past the end.
-pub fn byte_at(kept: [u8; 7], length: u8, tape: &[u8], j: usize) -> u8
-    ensures { λ r. ⌜ r ≡ getD (take length kept ++ now (tape .entry)) j 0 ⌝ }
+pub fn byte_at(kept: [u8; 7], size: u8, tape: &[u8], j: usize) -> u8
+    ensures { λ r. ⌜ r ≡ getD (take size kept ++ now (tape .entry)) j 0 ⌝ }
 {
-    let n = held(length);
+    let n = held(size);
     if j < n {
         return kept[j];
     }
