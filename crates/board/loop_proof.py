@@ -16,12 +16,12 @@ ROOT = os.path.dirname(os.path.dirname(os.path.dirname(os.path.abspath(__file__)
 OUT = os.path.join(ROOT, "crates/board/proofs/Board/run/Proof.antt")
 MADE = os.path.join(ROOT, "target/loop")
 
-BYTES = "take size bytes ++ tape"
-START = "record { icu = icu₀; intp = intp₀; timer = timer₀; dma = dma₀; kept = kept }"
-NOW = "record { icu = icu; intp = intp; timer = timer; dma = dma; kept = kept }"
+BYTES = "take size kept ++ tape"
+START = "record { icu = icu₀; intp = intp₀; timer = timer₀; dma = dma₀; kept = waiting }"
+NOW = "record { icu = icu; intp = intp; timer = timer; dma = dma; kept = waiting }"
 
 # The locals at the head of the loop, as rt names them: those that are there when it begins, then those that a turn changes.
-LOCALS = "tape memory₀ answers₀ kept bytes size total k levels₀ icu₀ intp₀ timer₀ dma₀ i₀ memory answers levels icu intp timer dma i"
+LOCALS = "kept size tape memory₀ answers₀ waiting total k levels₀ icu₀ intp₀ timer₀ dma₀ i₀ memory answers levels icu intp timer dma i"
 
 # What holds at the head of the loop, in the order in which the answers below count it.
 INVARIANT = [
@@ -201,7 +201,7 @@ def again(w, law, lent):
     let n : Board = record {{ icu = l .icu; intp = l .intp; timer = l .timer; dma = l .dma; kept = a .self .kept }} in
     let t = {law(w)} in
     let u =
-    turn (a .self) (a .memory .now) (take (a .self .kept .length) (a .self .kept .bytes) ++ a .tape .now) (l .i) n _ (l .memory) (q .result) ({memory}) (l .answers) (p .last .0) (a .answers .now) _
+    turn (a .self) (a .memory .now) (take (a .size) (a .kept) ++ a .tape .now) (l .i) n _ (l .memory) (q .result) ({memory}) (l .answers) (p .last .0) (a .answers .now) _
     (l .inv .3) (l .inv .4) (l .inv .5) (q .ensures) (t .0) (t .1) (t .2) (p .ensures)
     in (omega (arith, {w('loop-test')} .taken), {kept}, p .kept .0 ∙ l .inv .2, u .0, u .1, u .2, t .3)"""
 
@@ -232,8 +232,8 @@ def answer(name, w, arm):
         return f"""
     let l = {w('loop')} in
     let a = {w('args')} in
-    let k : {w('least')} .result ≡ fitting (a .self) (a .tape .now) (length (a .answers .now)) = {w('least')} .ensures .0 ∙ rw ({w('count-bytes')} .ensures .0) in
-    let e : l .i ≡ fitting (a .self) (a .tape .now) (length (a .answers .now)) = omega (arith, l .inv .0, {w('loop-test')} .left, k)
+    let k : {w('least')} .result ≡ fitting (take (a .size) (a .kept) ++ a .tape .now) (length (a .answers .now)) = {w('least')} .ensures .0 ∙ rw ({w('count-bytes')} .ensures .0) in
+    let e : l .i ≡ fitting (take (a .size) (a .kept) ++ a .tape .now) (length (a .answers .now)) = omega (arith, l .inv .0, {w('loop-test')} .left, k)
     in (rw (← e) (l .inv .3), (rw (← e) (l .inv .4), rw (← e) (l .inv .5)))"""
     return "search needs"
 

@@ -1,16 +1,16 @@
 -- Laws of a run of records, which the loop's proof cites.
 use mathlib.Core.Path.{_≡_, refl, ap, sym, _∙_}
-use mathlib.Core.List.{List, _++_}
+use mathlib.Core.List.{List, [], _∷_, _++_, append-nil}
 use Prim.Native.Nat.{ℕ, zero, suc, _+_, _*_}
 use native.Mathlib.Numerals.{add-one}
 use native.Mathlib.Omega.{arith}
 use lib.ListN.{length, drop, length-append}
-use lib.Seq.{paste}
+use lib.Seq.{paste, drop-length}
 use Rattle.tape.specs.Answers.{answerOf}
 use Rattle.board.specs.declared.Board.{Board}
 use Rattle.board.specs.declared.Stepped.{Stepped}
 use Rattle.board.specs.Step.{stepOf, stepMemory, answeredOf}
-use Rattle.board.specs.Records.{Run, after, next, recordAt}
+use Rattle.board.specs.Records.{Run, after, next, recordAt, fitting}
 use Rattle.board.proofs.Lists.{put-next}
 
 -- every answer is sixteen bytes
@@ -56,3 +56,28 @@ module _ (b : Board) (m t : List ℕ) where
             ∙ ap (λ (y : List ℕ). paste (after b m t i .answers ++ drop (16 * i) a₀) (16 * i) y 16) (ex ∙ ap (λ (y : Stepped). y .answer) q)
             ∙ put-next (after b m t i .answers) a₀ (s .answer) i (answered i) (sixteen _ _ _),
       )
+
+-- One record alone: its own bytes, with none kept before them, and room for its answer.
+itself : (r : List ℕ) → length r ≡ 8 → recordAt r 0 ≡ r
+unfolding recordAt
+itself [] h = absurd (omega (arith, h))
+itself (a ∷ []) h = absurd (omega (arith, h))
+itself (a ∷ b ∷ []) h = absurd (omega (arith, h))
+itself (a ∷ b ∷ c ∷ []) h = absurd (omega (arith, h))
+itself (a ∷ b ∷ c ∷ d ∷ []) h = absurd (omega (arith, h))
+itself (a ∷ b ∷ c ∷ d ∷ e ∷ []) h = absurd (omega (arith, h))
+itself (a ∷ b ∷ c ∷ d ∷ e ∷ f ∷ []) h = absurd (omega (arith, h))
+itself (a ∷ b ∷ c ∷ d ∷ e ∷ f ∷ g ∷ []) h = absurd (omega (arith, h))
+itself (a ∷ b ∷ c ∷ d ∷ e ∷ f ∷ g ∷ j ∷ []) h = refl
+itself (a ∷ b ∷ c ∷ d ∷ e ∷ f ∷ g ∷ j ∷ i ∷ r) h = absurd (omega (arith, h))
+
+pub one : (b : Board) (m r a : List ℕ) → length r ≡ 8 → length a ≡ 16
+    → (after b m r (fitting r 16) .board ≡ stepOf b r m .board)
+    × (after b m r (fitting r 16) .memory ≡ stepMemory b r m)
+    × (after b m r (fitting r 16) .answers ++ drop (16 * fitting r 16) a ≡ stepOf b r m .answer)
+unfolding after
+one b m r a e f =
+    rw (e, itself r e) (refl, refl, ap (λ (l : List ℕ). stepOf b r m .answer ++ l) (ap (λ (n : ℕ). drop n a) (sym f) ∙ drop-length a) ∙ append-nil _)
+
+pub both : (s : Stepped) (b : Board) (x : List ℕ) → b ≡ s .board → x ≡ s .answer → record { board = b; answer = x } ≡ s
+both s b x e f = rw (e, f)

@@ -2,7 +2,7 @@
 use Prim.Native.Nat.{ℕ, zero, suc, _+_, _*_, _/_, _%_}
 use mathlib.Core.List.{List, [], _∷_, _++_}
 use lib.Dec.{ltb}
-use lib.ListN.{length, take, getD}
+use lib.ListN.{length, getD}
 use Rattle.bits.specs.Choice.{if_then_else_}
 use Rattle.board.specs.declared.Board.{Board}
 use Rattle.board.specs.Step.{stepOf, stepMemory}
@@ -40,13 +40,9 @@ unfoldable pub after : Board → List ℕ → List ℕ → ℕ → Run
 after b m s zero = record { board = b; memory = m; answers = [] }
 after b m s (suc n) = next (after b m s n) (recordAt s n)
 
--- The bytes of a call: those kept from the last one, then the tape.
-abbrev pub bytesOf : Board → List ℕ → List ℕ
-bytesOf b t = take (b .kept .length) (b .kept .bytes) ++ t
-
--- A call runs the whole records of its bytes, as many as its answer buffer has room for.
-abbrev pub fitting : Board → List ℕ → ℕ → ℕ
-fitting b t room = if ltb (room / 16) (length (bytesOf b t) / 8) then room / 16 else length (bytesOf b t) / 8
+-- A run takes the whole records of its bytes, as many as there is room to answer.
+abbrev pub fitting : List ℕ → ℕ → ℕ
+fitting s room = if ltb (room / 16) (length s / 8) then room / 16 else length s / 8
 
 -- The eight bytes from a place on, and those of a number, little end first: a program holds a record in one number.
 unfoldable pub eightFrom : List ℕ → ℕ → List ℕ

@@ -18,7 +18,7 @@ ghost use Rattle.board.specs.Wiring.{linesAt, levelsOf, freshOf, levelsA
 ghost use Rattle.board.specs.Operations.{turnOf, flagOf, payloadOf};
 ghost use Rattle.board.specs.Advance.{advancedOf, risesPayload};
 ghost use Rattle.board.specs.Step.{stepOf, stepMemory};
-ghost use Rattle.board.specs.Records.{recordAt, eightFrom, digitsOf, after, bytesOf, fitting};
+ghost use Rattle.board.specs.Records.{recordAt, eightFrom, digitsOf, after, fitting};
 use dma::Dma;
 use dma::Report;
 use icu::Acknowledged;
@@ -467,37 +467,35 @@ impl Board {
         levels_at(i, self.intp, t)
     }
 
-    // One record: the loop, over this record alone. The kept bytes have no part in it.
+    // One record: the loop, over this record alone.
     pub fn step(self, r: [u8; 8], memory: &mut [u8]) -> Stepped
         ensures result { λ s. ⌜ s ≡ stepOf self r (now (memory .entry)) ⌝ }
         ensures memory { λ _. ⌜ now (memory .exit) ≡ stepMemory self r (now (memory .entry)) ⌝ }
     {
-        let kept = self.kept;
         let mut answer = [0u8; 16];
-        let mut alone = self;
-        alone.kept = Kept {
-            bytes: [0u8; 7],
-            length: 0,
-        };
-        let mut next = alone.run(&r, memory, &mut answer);
-        next.kept = kept;
+        let next = self.run([0u8; 7], 0, &r, memory, &mut answer);
         Stepped {
             board: next,
             answer: answer,
         }
     }
 
-    // The whole records that the kept bytes and the tape make, one after another, as many as the buffer has room for. The kept bytes stay as
-    // they were. The loop owns the chips, and each operation is an arm that changes its own chip, puts its answer and goes on to the next record.
-    pub fn run(self, tape: &[u8], memory: &mut [u8], answers: &mut [u8]) -> Board
-        ensures result { λ r. ⌜ r ≡ after self (now (memory .entry)) (bytesOf self (now (tape .entry))) (fitting self (now (tape .entry)) (length (now (answers .entry)))) .board ⌝ }
-        ensures memory { λ _. ⌜ now (memory .exit) ≡ after self (now (memory .entry)) (bytesOf self (now (tape .entry))) (fitting self (now (tape .entry)) (length (now (answers .entry)))) .memory ⌝ }
-        ensures answers { λ _. ⌜ now (answers .exit) ≡ after self (now (memory .entry)) (bytesOf self (now (tape .entry))) (fitting self (now (tape .entry)) (length (now (answers .entry)))) .answers ++ drop (16 * fitting self (now (tape .entry)) (length (now (answers .entry)))) (now (answers .entry)) ⌝ }
+    // The whole records that some kept bytes and the tape make, one after another, as many as the buffer has room for. The loop owns the chips,
+    // and each operation is an arm that changes its own chip, puts its answer and goes on to the next record.
+    pub fn run(
+        self,
+        kept: [u8; 7],
+        size: u8,
+        tape: &[u8],
+        memory: &mut [u8],
+        answers: &mut [u8],
+    ) -> Board
+        ensures result { λ r. ⌜ r ≡ after self (now (memory .entry)) (take size kept ++ now (tape .entry)) (fitting (take size kept ++ now (tape .entry)) (length (now (answers .entry)))) .board ⌝ }
+        ensures memory { λ _. ⌜ now (memory .exit) ≡ after self (now (memory .entry)) (take size kept ++ now (tape .entry)) (fitting (take size kept ++ now (tape .entry)) (length (now (answers .entry)))) .memory ⌝ }
+        ensures answers { λ _. ⌜ now (answers .exit) ≡ after self (now (memory .entry)) (take size kept ++ now (tape .entry)) (fitting (take size kept ++ now (tape .entry)) (length (now (answers .entry)))) .answers ++ drop (16 * fitting (take size kept ++ now (tape .entry)) (length (now (answers .entry)))) (now (answers .entry)) ⌝ }
     {
-        let kept = self.kept;
-        let bytes = self.kept.bytes;
-        let size = self.kept.length;
-        let total = tape::count_bytes(bytes, size, tape);
+        let waiting = self.kept;
+        let total = tape::count_bytes(kept, size, tape);
         let k = least(total / 8, answers.len() / 16);
         let mut levels = self.levels();
         let mut icu = self.icu;
@@ -505,7 +503,7 @@ impl Board {
         let mut timer = self.timer;
         let mut dma = self.dma;
         for i in 0..k {
-            let r = record_at(bytes, size, tape, i);
+            let r = record_at(kept, size, tape, i);
             let op = r[0];
             let d = tape::decode(r);
             // not a record at all
@@ -674,7 +672,7 @@ impl Board {
             intp: intp,
             timer: timer,
             dma: dma,
-            kept: kept,
+            kept: waiting,
         }
     }
 }

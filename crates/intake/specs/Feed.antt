@@ -3,15 +3,18 @@ use Prim.Native.Nat.{ℕ, _+_, _*_, _/_, _%_}
 use mathlib.Core.Bool.{Bool, not}
 use mathlib.Core.List.{List, _++_}
 use lib.Dec.{ltb}
-use lib.ListN.{length, drop}
+use lib.ListN.{length, take, drop}
 use Rattle.bits.specs.Choice.{if_then_else_, _and_}
 use Rattle.board.specs.declared.Board.{Board}
-use Rattle.board.specs.Records.{after, bytesOf}
+use Rattle.board.specs.Records.{after}
 use Rattle.intake.specs.declared.Fed.{Fed}
 use Rattle.intake.specs.Ranges.{inRange}
 use Rattle.intake.specs.Records.{restAt}
 
--- The bytes of a call make k whole records.
+-- The bytes of a call: those kept from the last one, then the tape. They make k whole records.
+abbrev pub bytesOf : Board → List ℕ → List ℕ
+bytesOf b t = take (b .kept .length) (b .kept .bytes) ++ t
+
 abbrev pub countOf : Board → List ℕ → ℕ
 countOf b t = (b .kept .length + length t) / 8
 

@@ -50,17 +50,17 @@ use Rattle.timer.proofs.Timer.set_gates.Reads as timer-set-gates-reads
 use Rattle.timer.proofs.Timer.write.Reads as timer-write-reads
 
 abbrev Inv-loop : tie.InvT-loop
-Inv-loop tape memory₀ answers₀ kept bytes size total k levels₀ icu₀ intp₀ timer₀ dma₀ i₀ memory answers levels icu intp timer dma i =
+Inv-loop kept size tape memory₀ answers₀ waiting total k levels₀ icu₀ intp₀ timer₀ dma₀ i₀ memory answers levels icu intp timer dma i =
     (i ≤ k)
     × (length memory ≡ length memory₀)
     × (length answers ≡ length answers₀)
-    × (record { icu = icu; intp = intp; timer = timer; dma = dma; kept = kept } ≡ after (record { icu = icu₀; intp = intp₀; timer = timer₀; dma = dma₀; kept = kept }) memory₀ (take size bytes ++ tape) i .board)
-    × (memory ≡ after (record { icu = icu₀; intp = intp₀; timer = timer₀; dma = dma₀; kept = kept }) memory₀ (take size bytes ++ tape) i .memory)
-    × (answers ≡ after (record { icu = icu₀; intp = intp₀; timer = timer₀; dma = dma₀; kept = kept }) memory₀ (take size bytes ++ tape) i .answers ++ drop (16 * i) answers₀)
-    × (levels ≡ levelsOf (record { icu = icu; intp = intp; timer = timer; dma = dma; kept = kept }))
+    × (record { icu = icu; intp = intp; timer = timer; dma = dma; kept = waiting } ≡ after (record { icu = icu₀; intp = intp₀; timer = timer₀; dma = dma₀; kept = waiting }) memory₀ (take size kept ++ tape) i .board)
+    × (memory ≡ after (record { icu = icu₀; intp = intp₀; timer = timer₀; dma = dma₀; kept = waiting }) memory₀ (take size kept ++ tape) i .memory)
+    × (answers ≡ after (record { icu = icu₀; intp = intp₀; timer = timer₀; dma = dma₀; kept = waiting }) memory₀ (take size kept ++ tape) i .answers ++ drop (16 * i) answers₀)
+    × (levels ≡ levelsOf (record { icu = icu; intp = intp; timer = timer; dma = dma; kept = waiting }))
 
 abbrev μ-loop : tie.MeasureT-loop
-μ-loop tape memory₀ answers₀ kept bytes size total k levels₀ icu₀ intp₀ timer₀ dma₀ i₀ memory answers levels icu intp timer dma i = k - i
+μ-loop kept size tape memory₀ answers₀ waiting total k levels₀ icu₀ intp₀ timer₀ dma₀ i₀ memory answers levels icu intp timer dma i = k - i
 
 count-bytes-requires : tie.Need-count-bytes-requires Inv-loop μ-loop
 count-bytes-requires c κs = search needs
@@ -94,7 +94,7 @@ tell-requires : tie.Need-tell-requires Inv-loop μ-loop
 tell-requires c κs = omega (arith, c .before .before .before .before .before .before .loop .inv .2, c .before .before .before .before .before .before .before .before .before .before .before .least .ensures .1 .1, c .before .before .before .before .before .loop-test .taken)
 
 add-i : tie.Need-add-i Inv-loop μ-loop
-add-i c = omega (arith, c .before .before .before .before .before .before .before .before .before .loop .inv .2, c .before .before .before .before .before .before .before .before .before .before .before .before .before .before .least .ensures .1 .1, c .before .before .before .before .before .before .before .before .loop-test .taken, c .before .before .before .before .before .before .before .before .before .before .before .before .before .before .before .before .before .before .before .before .before .good)
+add-i c = omega (arith, c .before .before .before .before .before .before .before .before .before .loop .inv .2, c .before .before .before .before .before .before .before .before .before .before .before .before .before .before .least .ensures .1 .1, c .before .before .before .before .before .before .before .before .loop-test .taken, c .before .before .before .before .before .before .before .before .before .before .before .before .before .before .before .before .before .before .before .before .good)
 
 loop-less : tie.Need-loop-less Inv-loop μ-loop
 loop-less c = omega (arith, c .before .before .before .before .before .before .before .before .loop-test .taken)
@@ -102,13 +102,13 @@ loop-less c = omega (arith, c .before .before .before .before .before .before .b
 loop-again : tie.Need-loop-again Inv-loop μ-loop
 loop-again c =
     let l = c .before .before .before .before .before .before .before .before .before .loop in
-    let a = c .before .before .before .before .before .before .before .before .before .before .before .before .before .before .before .before .before .before .before .before .before .args in
+    let a = c .before .before .before .before .before .before .before .before .before .before .before .before .before .before .before .before .before .before .before .before .args in
     let p = c .before .before .tell in
     let q = c .before .before .before .before .before .before .before .record-at in
     let n : Board = record { icu = l .icu; intp = l .intp; timer = l .timer; dma = l .dma; kept = a .self .kept } in
     let t = malformed n (q .result) (l .memory) (l .levels) (l .inv .6) (sym (c .before .before .before .before .before .before .decode .ensures) ∙ c .before .before .before .before .enum-told .given .1) in
     let u =
-    turn (a .self) (a .memory .now) (take (a .self .kept .length) (a .self .kept .bytes) ++ a .tape .now) (l .i) n _ (l .memory) (q .result) (l .memory) (l .answers) (p .last .0) (a .answers .now) _
+    turn (a .self) (a .memory .now) (take (a .size) (a .kept) ++ a .tape .now) (l .i) n _ (l .memory) (q .result) (l .memory) (l .answers) (p .last .0) (a .answers .now) _
     (l .inv .3) (l .inv .4) (l .inv .5) (q .ensures) (t .0) (t .1) (t .2) (p .ensures)
     in (omega (arith, c .before .before .before .before .before .before .before .before .loop-test .taken), l .inv .1, p .kept .0 ∙ l .inv .2, u .0, u .1, u .2, t .3)
 
@@ -119,7 +119,7 @@ tell-requires-2 : tie.Need-tell-requires-2 Inv-loop μ-loop
 tell-requires-2 c κs = omega (arith, c .before .before .before .before .before .before .before .before .before .loop .inv .2, c .before .before .before .before .before .before .before .before .before .before .before .before .before .before .least .ensures .1 .1, c .before .before .before .before .before .before .before .before .loop-test .taken)
 
 add-i-2 : tie.Need-add-i-2 Inv-loop μ-loop
-add-i-2 c = omega (arith, c .before .before .before .before .before .before .before .before .before .before .before .before .loop .inv .2, c .before .before .before .before .before .before .before .before .before .before .before .before .before .before .before .before .before .least .ensures .1 .1, c .before .before .before .before .before .before .before .before .before .before .before .loop-test .taken, c .before .before .before .before .before .before .before .before .before .before .before .before .before .before .before .before .before .before .before .before .before .before .before .before .good)
+add-i-2 c = omega (arith, c .before .before .before .before .before .before .before .before .before .before .before .before .loop .inv .2, c .before .before .before .before .before .before .before .before .before .before .before .before .before .before .before .before .before .least .ensures .1 .1, c .before .before .before .before .before .before .before .before .before .before .before .loop-test .taken, c .before .before .before .before .before .before .before .before .before .before .before .before .before .before .before .before .before .before .before .before .before .before .before .good)
 
 loop-less-2 : tie.Need-loop-less-2 Inv-loop μ-loop
 loop-less-2 c = omega (arith, c .before .before .before .before .before .before .before .before .before .before .before .loop-test .taken)
@@ -127,13 +127,13 @@ loop-less-2 c = omega (arith, c .before .before .before .before .before .before 
 loop-again-2 : tie.Need-loop-again-2 Inv-loop μ-loop
 loop-again-2 c =
     let l = c .before .before .before .before .before .before .before .before .before .before .before .before .loop in
-    let a = c .before .before .before .before .before .before .before .before .before .before .before .before .before .before .before .before .before .before .before .before .before .before .before .before .args in
+    let a = c .before .before .before .before .before .before .before .before .before .before .before .before .before .before .before .before .before .before .before .before .before .before .before .args in
     let p = c .before .before .tell2 in
     let q = c .before .before .before .before .before .before .before .before .before .before .record-at in
     let n : Board = record { icu = l .icu; intp = l .intp; timer = l .timer; dma = l .dma; kept = a .self .kept } in
     let t = held-up n (q .result) (l .memory) (l .levels) (l .inv .6) _ (sym (c .before .before .before .before .before .before .before .before .before .decode .ensures) ∙ c .before .before .before .before .before .before .before .d .given .1) (sym (c .before .before .before .before .before .is-blocked .ensures) ∙ c .before .before .before .before .if1 .taken) in
     let u =
-    turn (a .self) (a .memory .now) (take (a .self .kept .length) (a .self .kept .bytes) ++ a .tape .now) (l .i) n _ (l .memory) (q .result) (l .memory) (l .answers) (p .last .0) (a .answers .now) _
+    turn (a .self) (a .memory .now) (take (a .size) (a .kept) ++ a .tape .now) (l .i) n _ (l .memory) (q .result) (l .memory) (l .answers) (p .last .0) (a .answers .now) _
     (l .inv .3) (l .inv .4) (l .inv .5) (q .ensures) (t .0) (t .1) (t .2) (p .ensures)
     in (omega (arith, c .before .before .before .before .before .before .before .before .before .before .before .loop-test .taken), l .inv .1, p .kept .0 ∙ l .inv .2, u .0, u .1, u .2, t .3)
 
@@ -153,7 +153,7 @@ tell-requires-3 : tie.Need-tell-requires-3 Inv-loop μ-loop
 tell-requires-3 c κs = omega (arith, c .before .before .before .before .before .before .before .before .before .before .before .before .before .before .loop .inv .2, c .before .before .before .before .before .before .before .before .before .before .before .before .before .before .before .before .before .before .before .least .ensures .1 .1, c .before .before .before .before .before .before .before .before .before .before .before .before .before .loop-test .taken)
 
 add-i-3 : tie.Need-add-i-3 Inv-loop μ-loop
-add-i-3 c = omega (arith, c .before .before .before .before .before .before .before .before .before .before .before .before .before .before .before .before .before .loop .inv .2, c .before .before .before .before .before .before .before .before .before .before .before .before .before .before .before .before .before .before .before .before .before .before .least .ensures .1 .1, c .before .before .before .before .before .before .before .before .before .before .before .before .before .before .before .before .loop-test .taken, c .before .before .before .before .before .before .before .before .before .before .before .before .before .before .before .before .before .before .before .before .before .before .before .before .before .before .before .before .before .good)
+add-i-3 c = omega (arith, c .before .before .before .before .before .before .before .before .before .before .before .before .before .before .before .before .before .loop .inv .2, c .before .before .before .before .before .before .before .before .before .before .before .before .before .before .before .before .before .before .before .before .before .before .least .ensures .1 .1, c .before .before .before .before .before .before .before .before .before .before .before .before .before .before .before .before .loop-test .taken, c .before .before .before .before .before .before .before .before .before .before .before .before .before .before .before .before .before .before .before .before .before .before .before .before .before .before .before .before .good)
 
 loop-less-3 : tie.Need-loop-less-3 Inv-loop μ-loop
 loop-less-3 c = omega (arith, c .before .before .before .before .before .before .before .before .before .before .before .before .before .before .before .before .loop-test .taken)
@@ -161,13 +161,13 @@ loop-less-3 c = omega (arith, c .before .before .before .before .before .before 
 loop-again-3 : tie.Need-loop-again-3 Inv-loop μ-loop
 loop-again-3 c =
     let l = c .before .before .before .before .before .before .before .before .before .before .before .before .before .before .before .before .before .loop in
-    let a = c .before .before .before .before .before .before .before .before .before .before .before .before .before .before .before .before .before .before .before .before .before .before .before .before .before .before .before .before .before .args in
+    let a = c .before .before .before .before .before .before .before .before .before .before .before .before .before .before .before .before .before .before .before .before .before .before .before .before .before .before .before .before .args in
     let p = c .before .before .tell3 in
     let q = c .before .before .before .before .before .before .before .before .before .before .before .before .before .before .before .record-at in
     let n : Board = record { icu = l .icu; intp = l .intp; timer = l .timer; dma = l .dma; kept = a .self .kept } in
     let t = reset n (q .result) (l .memory) (l .levels) (l .inv .6) _ (sym (c .before .before .before .before .before .before .before .before .before .before .before .before .before .before .decode .ensures) ∙ c .before .before .before .before .before .before .before .before .before .before .before .before .d .given .1) (sym (c .before .before .before .before .before .before .before .before .before .before .is-blocked .ensures) ∙ c .before .before .before .before .before .before .before .before .before .if1 .left) (c .before .before .before .before .before .before .before .enum-told2 .given .1) _ _ _ (c .before .before .before .before .before .before .reset .ensures) (c .before .before .before .before .before .reset2 .ensures) (c .before .before .before .before .reset3 .ensures) in
     let u =
-    turn (a .self) (a .memory .now) (take (a .self .kept .length) (a .self .kept .bytes) ++ a .tape .now) (l .i) n _ (l .memory) (q .result) (l .memory) (l .answers) (p .last .0) (a .answers .now) _
+    turn (a .self) (a .memory .now) (take (a .size) (a .kept) ++ a .tape .now) (l .i) n _ (l .memory) (q .result) (l .memory) (l .answers) (p .last .0) (a .answers .now) _
     (l .inv .3) (l .inv .4) (l .inv .5) (q .ensures) (t .0) (t .1) (t .2) (p .ensures)
     in (omega (arith, c .before .before .before .before .before .before .before .before .before .before .before .before .before .before .before .before .loop-test .taken), l .inv .1, p .kept .0 ∙ l .inv .2, u .0, u .1, u .2, t .3)
 
@@ -184,7 +184,7 @@ tell-requires-4 : tie.Need-tell-requires-4 Inv-loop μ-loop
 tell-requires-4 c κs = omega (arith, c .before .before .before .before .before .before .before .before .before .before .before .before .before .before .before .before .before .loop .inv .2, c .before .before .before .before .before .before .before .before .before .before .before .before .before .before .before .before .before .before .before .before .before .before .least .ensures .1 .1, c .before .before .before .before .before .before .before .before .before .before .before .before .before .before .before .before .loop-test .taken)
 
 add-i-4 : tie.Need-add-i-4 Inv-loop μ-loop
-add-i-4 c = omega (arith, c .before .before .before .before .before .before .before .before .before .before .before .before .before .before .before .before .before .before .before .before .loop .inv .2, c .before .before .before .before .before .before .before .before .before .before .before .before .before .before .before .before .before .before .before .before .before .before .before .before .before .least .ensures .1 .1, c .before .before .before .before .before .before .before .before .before .before .before .before .before .before .before .before .before .before .before .loop-test .taken, c .before .before .before .before .before .before .before .before .before .before .before .before .before .before .before .before .before .before .before .before .before .before .before .before .before .before .before .before .before .before .before .before .good)
+add-i-4 c = omega (arith, c .before .before .before .before .before .before .before .before .before .before .before .before .before .before .before .before .before .before .before .before .loop .inv .2, c .before .before .before .before .before .before .before .before .before .before .before .before .before .before .before .before .before .before .before .before .before .before .before .before .before .least .ensures .1 .1, c .before .before .before .before .before .before .before .before .before .before .before .before .before .before .before .before .before .before .before .loop-test .taken, c .before .before .before .before .before .before .before .before .before .before .before .before .before .before .before .before .before .before .before .before .before .before .before .before .before .before .before .before .before .before .before .good)
 
 loop-less-4 : tie.Need-loop-less-4 Inv-loop μ-loop
 loop-less-4 c = omega (arith, c .before .before .before .before .before .before .before .before .before .before .before .before .before .before .before .before .before .before .before .loop-test .taken)
@@ -192,13 +192,13 @@ loop-less-4 c = omega (arith, c .before .before .before .before .before .before 
 loop-again-4 : tie.Need-loop-again-4 Inv-loop μ-loop
 loop-again-4 c =
     let l = c .before .before .before .before .before .before .before .before .before .before .before .before .before .before .before .before .before .before .before .before .loop in
-    let a = c .before .before .before .before .before .before .before .before .before .before .before .before .before .before .before .before .before .before .before .before .before .before .before .before .before .before .before .before .before .before .before .before .args in
+    let a = c .before .before .before .before .before .before .before .before .before .before .before .before .before .before .before .before .before .before .before .before .before .before .before .before .before .before .before .before .before .before .before .args in
     let p = c .before .before .tell4 in
     let q = c .before .before .before .before .before .before .before .before .before .before .before .before .before .before .before .before .before .before .record-at in
     let n : Board = record { icu = l .icu; intp = l .intp; timer = l .timer; dma = l .dma; kept = a .self .kept } in
     let t = wrote-icu n (q .result) (l .memory) (l .levels) (l .inv .6) _ (sym (c .before .before .before .before .before .before .before .before .before .before .before .before .before .before .before .before .before .decode .ensures) ∙ c .before .before .before .before .before .before .before .before .before .before .before .before .before .before .before .d .given .1) (sym (c .before .before .before .before .before .before .before .before .before .before .before .before .before .is-blocked .ensures) ∙ c .before .before .before .before .before .before .before .before .before .before .before .before .if1 .left) _ _ (c .before .before .before .before .before .before .before .before .before .before .o .given .1) (c .before .before .before .before .before .before .before .before .if2 .taken) _ _ (c .before .before .before .before .before .before .before .write-icu .ensures) (c .before .before .before .before .levels-at .ensures) in
     let u =
-    turn (a .self) (a .memory .now) (take (a .self .kept .length) (a .self .kept .bytes) ++ a .tape .now) (l .i) n _ (l .memory) (q .result) (l .memory) (l .answers) (p .last .0) (a .answers .now) _
+    turn (a .self) (a .memory .now) (take (a .size) (a .kept) ++ a .tape .now) (l .i) n _ (l .memory) (q .result) (l .memory) (l .answers) (p .last .0) (a .answers .now) _
     (l .inv .3) (l .inv .4) (l .inv .5) (q .ensures) (t .0) (t .1) (t .2) (p .ensures)
     in (omega (arith, c .before .before .before .before .before .before .before .before .before .before .before .before .before .before .before .before .before .before .before .loop-test .taken), l .inv .1, p .kept .0 ∙ l .inv .2, u .0, u .1, u .2, t .3)
 
@@ -212,7 +212,7 @@ tell-requires-5 : tie.Need-tell-requires-5 Inv-loop μ-loop
 tell-requires-5 c κs = omega (arith, c .before .before .before .before .before .before .before .before .before .before .before .before .before .before .before .before .before .before .before .before .loop .inv .2, c .before .before .before .before .before .before .before .before .before .before .before .before .before .before .before .before .before .before .before .before .before .before .before .before .before .least .ensures .1 .1, c .before .before .before .before .before .before .before .before .before .before .before .before .before .before .before .before .before .before .before .loop-test .taken)
 
 add-i-5 : tie.Need-add-i-5 Inv-loop μ-loop
-add-i-5 c = omega (arith, c .before .before .before .before .before .before .before .before .before .before .before .before .before .before .before .before .before .before .before .before .before .before .before .loop .inv .2, c .before .before .before .before .before .before .before .before .before .before .before .before .before .before .before .before .before .before .before .before .before .before .before .before .before .before .before .before .least .ensures .1 .1, c .before .before .before .before .before .before .before .before .before .before .before .before .before .before .before .before .before .before .before .before .before .before .loop-test .taken, c .before .before .before .before .before .before .before .before .before .before .before .before .before .before .before .before .before .before .before .before .before .before .before .before .before .before .before .before .before .before .before .before .before .before .before .good)
+add-i-5 c = omega (arith, c .before .before .before .before .before .before .before .before .before .before .before .before .before .before .before .before .before .before .before .before .before .before .before .loop .inv .2, c .before .before .before .before .before .before .before .before .before .before .before .before .before .before .before .before .before .before .before .before .before .before .before .before .before .before .before .before .least .ensures .1 .1, c .before .before .before .before .before .before .before .before .before .before .before .before .before .before .before .before .before .before .before .before .before .before .loop-test .taken, c .before .before .before .before .before .before .before .before .before .before .before .before .before .before .before .before .before .before .before .before .before .before .before .before .before .before .before .before .before .before .before .before .before .before .good)
 
 loop-less-5 : tie.Need-loop-less-5 Inv-loop μ-loop
 loop-less-5 c = omega (arith, c .before .before .before .before .before .before .before .before .before .before .before .before .before .before .before .before .before .before .before .before .before .before .loop-test .taken)
@@ -220,13 +220,13 @@ loop-less-5 c = omega (arith, c .before .before .before .before .before .before 
 loop-again-5 : tie.Need-loop-again-5 Inv-loop μ-loop
 loop-again-5 c =
     let l = c .before .before .before .before .before .before .before .before .before .before .before .before .before .before .before .before .before .before .before .before .before .before .before .loop in
-    let a = c .before .before .before .before .before .before .before .before .before .before .before .before .before .before .before .before .before .before .before .before .before .before .before .before .before .before .before .before .before .before .before .before .before .before .before .args in
+    let a = c .before .before .before .before .before .before .before .before .before .before .before .before .before .before .before .before .before .before .before .before .before .before .before .before .before .before .before .before .before .before .before .before .before .before .args in
     let p = c .before .before .tell5 in
     let q = c .before .before .before .before .before .before .before .before .before .before .before .before .before .before .before .before .before .before .before .before .before .record-at in
     let n : Board = record { icu = l .icu; intp = l .intp; timer = l .timer; dma = l .dma; kept = a .self .kept } in
     let t = wrote-timer n (q .result) (l .memory) (l .levels) (l .inv .6) _ (sym (c .before .before .before .before .before .before .before .before .before .before .before .before .before .before .before .before .before .before .before .before .decode .ensures) ∙ c .before .before .before .before .before .before .before .before .before .before .before .before .before .before .before .before .before .before .d .given .1) (sym (c .before .before .before .before .before .before .before .before .before .before .before .before .before .before .before .before .is-blocked .ensures) ∙ c .before .before .before .before .before .before .before .before .before .before .before .before .before .before .before .if1 .left) _ _ (c .before .before .before .before .before .before .before .before .before .before .before .before .before .o .given .1) (c .before .before .before .before .before .before .before .before .before .before .before .if2 .left) (c .before .before .before .before .before .before .before .before .before .before .if3 .taken) _ (c .before .before .before .before .before .before .before .before .before .write .ensures) (c .before .before .before .before .before .before .before .if4 .taken) _ (c .before .before .before .before .before .rewire .ensures) in
     let u =
-    turn (a .self) (a .memory .now) (take (a .self .kept .length) (a .self .kept .bytes) ++ a .tape .now) (l .i) n _ (l .memory) (q .result) (l .memory) (l .answers) (p .last .0) (a .answers .now) _
+    turn (a .self) (a .memory .now) (take (a .size) (a .kept) ++ a .tape .now) (l .i) n _ (l .memory) (q .result) (l .memory) (l .answers) (p .last .0) (a .answers .now) _
     (l .inv .3) (l .inv .4) (l .inv .5) (q .ensures) (t .0) (t .1) (t .2) (p .ensures)
     in (omega (arith, c .before .before .before .before .before .before .before .before .before .before .before .before .before .before .before .before .before .before .before .before .before .before .loop-test .taken), l .inv .1, p .kept .0 ∙ l .inv .2, u .0, u .1, u .2, t .3)
 
@@ -234,7 +234,7 @@ tell-requires-6 : tie.Need-tell-requires-6 Inv-loop μ-loop
 tell-requires-6 c κs = omega (arith, c .before .before .before .before .before .before .before .before .before .before .before .before .before .before .before .before .before .loop .inv .2, c .before .before .before .before .before .before .before .before .before .before .before .before .before .before .before .before .before .before .before .before .before .before .least .ensures .1 .1, c .before .before .before .before .before .before .before .before .before .before .before .before .before .before .before .before .loop-test .taken)
 
 add-i-6 : tie.Need-add-i-6 Inv-loop μ-loop
-add-i-6 c = omega (arith, c .before .before .before .before .before .before .before .before .before .before .before .before .before .before .before .before .before .before .before .before .loop .inv .2, c .before .before .before .before .before .before .before .before .before .before .before .before .before .before .before .before .before .before .before .before .before .before .before .before .before .least .ensures .1 .1, c .before .before .before .before .before .before .before .before .before .before .before .before .before .before .before .before .before .before .before .loop-test .taken, c .before .before .before .before .before .before .before .before .before .before .before .before .before .before .before .before .before .before .before .before .before .before .before .before .before .before .before .before .before .before .before .before .good)
+add-i-6 c = omega (arith, c .before .before .before .before .before .before .before .before .before .before .before .before .before .before .before .before .before .before .before .before .loop .inv .2, c .before .before .before .before .before .before .before .before .before .before .before .before .before .before .before .before .before .before .before .before .before .before .before .before .before .least .ensures .1 .1, c .before .before .before .before .before .before .before .before .before .before .before .before .before .before .before .before .before .before .before .loop-test .taken, c .before .before .before .before .before .before .before .before .before .before .before .before .before .before .before .before .before .before .before .before .before .before .before .before .before .before .before .before .before .before .before .good)
 
 loop-less-6 : tie.Need-loop-less-6 Inv-loop μ-loop
 loop-less-6 c = omega (arith, c .before .before .before .before .before .before .before .before .before .before .before .before .before .before .before .before .before .before .before .loop-test .taken)
@@ -242,13 +242,13 @@ loop-less-6 c = omega (arith, c .before .before .before .before .before .before 
 loop-again-6 : tie.Need-loop-again-6 Inv-loop μ-loop
 loop-again-6 c =
     let l = c .before .before .before .before .before .before .before .before .before .before .before .before .before .before .before .before .before .before .before .before .loop in
-    let a = c .before .before .before .before .before .before .before .before .before .before .before .before .before .before .before .before .before .before .before .before .before .before .before .before .before .before .before .before .before .before .before .before .args in
+    let a = c .before .before .before .before .before .before .before .before .before .before .before .before .before .before .before .before .before .before .before .before .before .before .before .before .before .before .before .before .before .before .before .args in
     let p = c .before .before .tell6 in
     let q = c .before .before .before .before .before .before .before .before .before .before .before .before .before .before .before .before .before .before .record-at in
     let n : Board = record { icu = l .icu; intp = l .intp; timer = l .timer; dma = l .dma; kept = a .self .kept } in
     let t = refused-timer n (q .result) (l .memory) (l .levels) (l .inv .6) _ (sym (c .before .before .before .before .before .before .before .before .before .before .before .before .before .before .before .before .before .decode .ensures) ∙ c .before .before .before .before .before .before .before .before .before .before .before .before .before .before .before .d .given .1) (sym (c .before .before .before .before .before .before .before .before .before .before .before .before .before .is-blocked .ensures) ∙ c .before .before .before .before .before .before .before .before .before .before .before .before .if1 .left) _ _ (c .before .before .before .before .before .before .before .before .before .before .o .given .1) (c .before .before .before .before .before .before .before .before .if2 .left) (c .before .before .before .before .before .before .before .if3 .taken) _ (c .before .before .before .before .before .before .write .ensures) (c .before .before .before .before .if4 .left) in
     let u =
-    turn (a .self) (a .memory .now) (take (a .self .kept .length) (a .self .kept .bytes) ++ a .tape .now) (l .i) n _ (l .memory) (q .result) (l .memory) (l .answers) (p .last .0) (a .answers .now) _
+    turn (a .self) (a .memory .now) (take (a .size) (a .kept) ++ a .tape .now) (l .i) n _ (l .memory) (q .result) (l .memory) (l .answers) (p .last .0) (a .answers .now) _
     (l .inv .3) (l .inv .4) (l .inv .5) (q .ensures) (t .0) (t .1) (t .2) (p .ensures)
     in (omega (arith, c .before .before .before .before .before .before .before .before .before .before .before .before .before .before .before .before .before .before .before .loop-test .taken), l .inv .1, p .kept .0 ∙ l .inv .2, u .0, u .1, u .2, t .3)
 
@@ -259,7 +259,7 @@ tell-requires-7 : tie.Need-tell-requires-7 Inv-loop μ-loop
 tell-requires-7 c κs = omega (arith, c .before .before .before .before .before .before .before .before .before .before .before .before .before .before .before .before .before .before .loop .inv .2, c .before .before .before .before .before .before .before .before .before .before .before .before .before .before .before .before .before .before .before .before .before .before .before .least .ensures .1 .1, c .before .before .before .before .before .before .before .before .before .before .before .before .before .before .before .before .before .loop-test .taken)
 
 add-i-7 : tie.Need-add-i-7 Inv-loop μ-loop
-add-i-7 c = omega (arith, c .before .before .before .before .before .before .before .before .before .before .before .before .before .before .before .before .before .before .before .before .before .loop .inv .2, c .before .before .before .before .before .before .before .before .before .before .before .before .before .before .before .before .before .before .before .before .before .before .before .before .before .before .least .ensures .1 .1, c .before .before .before .before .before .before .before .before .before .before .before .before .before .before .before .before .before .before .before .before .loop-test .taken, c .before .before .before .before .before .before .before .before .before .before .before .before .before .before .before .before .before .before .before .before .before .before .before .before .before .before .before .before .before .before .before .before .before .good)
+add-i-7 c = omega (arith, c .before .before .before .before .before .before .before .before .before .before .before .before .before .before .before .before .before .before .before .before .before .loop .inv .2, c .before .before .before .before .before .before .before .before .before .before .before .before .before .before .before .before .before .before .before .before .before .before .before .before .before .before .least .ensures .1 .1, c .before .before .before .before .before .before .before .before .before .before .before .before .before .before .before .before .before .before .before .before .loop-test .taken, c .before .before .before .before .before .before .before .before .before .before .before .before .before .before .before .before .before .before .before .before .before .before .before .before .before .before .before .before .before .before .before .before .good)
 
 loop-less-7 : tie.Need-loop-less-7 Inv-loop μ-loop
 loop-less-7 c = omega (arith, c .before .before .before .before .before .before .before .before .before .before .before .before .before .before .before .before .before .before .before .before .loop-test .taken)
@@ -267,13 +267,13 @@ loop-less-7 c = omega (arith, c .before .before .before .before .before .before 
 loop-again-7 : tie.Need-loop-again-7 Inv-loop μ-loop
 loop-again-7 c =
     let l = c .before .before .before .before .before .before .before .before .before .before .before .before .before .before .before .before .before .before .before .before .before .loop in
-    let a = c .before .before .before .before .before .before .before .before .before .before .before .before .before .before .before .before .before .before .before .before .before .before .before .before .before .before .before .before .before .before .before .before .before .args in
+    let a = c .before .before .before .before .before .before .before .before .before .before .before .before .before .before .before .before .before .before .before .before .before .before .before .before .before .before .before .before .before .before .before .before .args in
     let p = c .before .before .tell7 in
     let q = c .before .before .before .before .before .before .before .before .before .before .before .before .before .before .before .before .before .before .before .record-at in
     let n : Board = record { icu = l .icu; intp = l .intp; timer = l .timer; dma = l .dma; kept = a .self .kept } in
     let t = wrote-dma n (q .result) (l .memory) (l .levels) (l .inv .6) _ (sym (c .before .before .before .before .before .before .before .before .before .before .before .before .before .before .before .before .before .before .decode .ensures) ∙ c .before .before .before .before .before .before .before .before .before .before .before .before .before .before .before .before .d .given .1) (sym (c .before .before .before .before .before .before .before .before .before .before .before .before .before .before .is-blocked .ensures) ∙ c .before .before .before .before .before .before .before .before .before .before .before .before .before .if1 .left) _ _ (c .before .before .before .before .before .before .before .before .before .before .before .o .given .1) (c .before .before .before .before .before .before .before .before .before .if2 .left) (c .before .before .before .before .before .before .before .before .if3 .left) _ (c .before .before .before .before .before .before .before .write2 .ensures) (c .before .before .before .before .before .if5 .taken) in
     let u =
-    turn (a .self) (a .memory .now) (take (a .self .kept .length) (a .self .kept .bytes) ++ a .tape .now) (l .i) n _ (l .memory) (q .result) (l .memory) (l .answers) (p .last .0) (a .answers .now) _
+    turn (a .self) (a .memory .now) (take (a .size) (a .kept) ++ a .tape .now) (l .i) n _ (l .memory) (q .result) (l .memory) (l .answers) (p .last .0) (a .answers .now) _
     (l .inv .3) (l .inv .4) (l .inv .5) (q .ensures) (t .0) (t .1) (t .2) (p .ensures)
     in (omega (arith, c .before .before .before .before .before .before .before .before .before .before .before .before .before .before .before .before .before .before .before .before .loop-test .taken), l .inv .1, p .kept .0 ∙ l .inv .2, u .0, u .1, u .2, t .3)
 
@@ -281,7 +281,7 @@ tell-requires-8 : tie.Need-tell-requires-8 Inv-loop μ-loop
 tell-requires-8 c κs = omega (arith, c .before .before .before .before .before .before .before .before .before .before .before .before .before .before .before .before .before .loop .inv .2, c .before .before .before .before .before .before .before .before .before .before .before .before .before .before .before .before .before .before .before .before .before .before .least .ensures .1 .1, c .before .before .before .before .before .before .before .before .before .before .before .before .before .before .before .before .loop-test .taken)
 
 add-i-8 : tie.Need-add-i-8 Inv-loop μ-loop
-add-i-8 c = omega (arith, c .before .before .before .before .before .before .before .before .before .before .before .before .before .before .before .before .before .before .before .before .loop .inv .2, c .before .before .before .before .before .before .before .before .before .before .before .before .before .before .before .before .before .before .before .before .before .before .before .before .before .least .ensures .1 .1, c .before .before .before .before .before .before .before .before .before .before .before .before .before .before .before .before .before .before .before .loop-test .taken, c .before .before .before .before .before .before .before .before .before .before .before .before .before .before .before .before .before .before .before .before .before .before .before .before .before .before .before .before .before .before .before .before .good)
+add-i-8 c = omega (arith, c .before .before .before .before .before .before .before .before .before .before .before .before .before .before .before .before .before .before .before .before .loop .inv .2, c .before .before .before .before .before .before .before .before .before .before .before .before .before .before .before .before .before .before .before .before .before .before .before .before .before .least .ensures .1 .1, c .before .before .before .before .before .before .before .before .before .before .before .before .before .before .before .before .before .before .before .loop-test .taken, c .before .before .before .before .before .before .before .before .before .before .before .before .before .before .before .before .before .before .before .before .before .before .before .before .before .before .before .before .before .before .before .good)
 
 loop-less-8 : tie.Need-loop-less-8 Inv-loop μ-loop
 loop-less-8 c = omega (arith, c .before .before .before .before .before .before .before .before .before .before .before .before .before .before .before .before .before .before .before .loop-test .taken)
@@ -289,13 +289,13 @@ loop-less-8 c = omega (arith, c .before .before .before .before .before .before 
 loop-again-8 : tie.Need-loop-again-8 Inv-loop μ-loop
 loop-again-8 c =
     let l = c .before .before .before .before .before .before .before .before .before .before .before .before .before .before .before .before .before .before .before .before .loop in
-    let a = c .before .before .before .before .before .before .before .before .before .before .before .before .before .before .before .before .before .before .before .before .before .before .before .before .before .before .before .before .before .before .before .before .args in
+    let a = c .before .before .before .before .before .before .before .before .before .before .before .before .before .before .before .before .before .before .before .before .before .before .before .before .before .before .before .before .before .before .before .args in
     let p = c .before .before .tell8 in
     let q = c .before .before .before .before .before .before .before .before .before .before .before .before .before .before .before .before .before .before .record-at in
     let n : Board = record { icu = l .icu; intp = l .intp; timer = l .timer; dma = l .dma; kept = a .self .kept } in
     let t = refused-dma n (q .result) (l .memory) (l .levels) (l .inv .6) _ (sym (c .before .before .before .before .before .before .before .before .before .before .before .before .before .before .before .before .before .decode .ensures) ∙ c .before .before .before .before .before .before .before .before .before .before .before .before .before .before .before .d .given .1) (sym (c .before .before .before .before .before .before .before .before .before .before .before .before .before .is-blocked .ensures) ∙ c .before .before .before .before .before .before .before .before .before .before .before .before .if1 .left) _ _ (c .before .before .before .before .before .before .before .before .before .before .o .given .1) (c .before .before .before .before .before .before .before .before .if2 .left) (c .before .before .before .before .before .before .before .if3 .left) _ (c .before .before .before .before .before .before .write2 .ensures) (c .before .before .before .before .if5 .left) in
     let u =
-    turn (a .self) (a .memory .now) (take (a .self .kept .length) (a .self .kept .bytes) ++ a .tape .now) (l .i) n _ (l .memory) (q .result) (l .memory) (l .answers) (p .last .0) (a .answers .now) _
+    turn (a .self) (a .memory .now) (take (a .size) (a .kept) ++ a .tape .now) (l .i) n _ (l .memory) (q .result) (l .memory) (l .answers) (p .last .0) (a .answers .now) _
     (l .inv .3) (l .inv .4) (l .inv .5) (q .ensures) (t .0) (t .1) (t .2) (p .ensures)
     in (omega (arith, c .before .before .before .before .before .before .before .before .before .before .before .before .before .before .before .before .before .before .before .loop-test .taken), l .inv .1, p .kept .0 ∙ l .inv .2, u .0, u .1, u .2, t .3)
 
@@ -312,7 +312,7 @@ tell-requires-9 : tie.Need-tell-requires-9 Inv-loop μ-loop
 tell-requires-9 c κs = omega (arith, c .before .before .before .before .before .before .before .before .before .before .before .before .before .before .before .before .loop .inv .2, c .before .before .before .before .before .before .before .before .before .before .before .before .before .before .before .before .before .before .before .before .before .least .ensures .1 .1, c .before .before .before .before .before .before .before .before .before .before .before .before .before .before .before .loop-test .taken)
 
 add-i-9 : tie.Need-add-i-9 Inv-loop μ-loop
-add-i-9 c = omega (arith, c .before .before .before .before .before .before .before .before .before .before .before .before .before .before .before .before .before .before .before .loop .inv .2, c .before .before .before .before .before .before .before .before .before .before .before .before .before .before .before .before .before .before .before .before .before .before .before .before .least .ensures .1 .1, c .before .before .before .before .before .before .before .before .before .before .before .before .before .before .before .before .before .before .loop-test .taken, c .before .before .before .before .before .before .before .before .before .before .before .before .before .before .before .before .before .before .before .before .before .before .before .before .before .before .before .before .before .before .before .good)
+add-i-9 c = omega (arith, c .before .before .before .before .before .before .before .before .before .before .before .before .before .before .before .before .before .before .before .loop .inv .2, c .before .before .before .before .before .before .before .before .before .before .before .before .before .before .before .before .before .before .before .before .before .before .before .before .least .ensures .1 .1, c .before .before .before .before .before .before .before .before .before .before .before .before .before .before .before .before .before .before .loop-test .taken, c .before .before .before .before .before .before .before .before .before .before .before .before .before .before .before .before .before .before .before .before .before .before .before .before .before .before .before .before .before .before .good)
 
 loop-less-9 : tie.Need-loop-less-9 Inv-loop μ-loop
 loop-less-9 c = omega (arith, c .before .before .before .before .before .before .before .before .before .before .before .before .before .before .before .before .before .before .loop-test .taken)
@@ -320,13 +320,13 @@ loop-less-9 c = omega (arith, c .before .before .before .before .before .before 
 loop-again-9 : tie.Need-loop-again-9 Inv-loop μ-loop
 loop-again-9 c =
     let l = c .before .before .before .before .before .before .before .before .before .before .before .before .before .before .before .before .before .before .before .loop in
-    let a = c .before .before .before .before .before .before .before .before .before .before .before .before .before .before .before .before .before .before .before .before .before .before .before .before .before .before .before .before .before .before .before .args in
+    let a = c .before .before .before .before .before .before .before .before .before .before .before .before .before .before .before .before .before .before .before .before .before .before .before .before .before .before .before .before .before .before .args in
     let p = c .before .before .tell9 in
     let q = c .before .before .before .before .before .before .before .before .before .before .before .before .before .before .before .before .before .record-at in
     let n : Board = record { icu = l .icu; intp = l .intp; timer = l .timer; dma = l .dma; kept = a .self .kept } in
     let t = read-icu n (q .result) (l .memory) (l .levels) (l .inv .6) _ (sym (c .before .before .before .before .before .before .before .before .before .before .before .before .before .before .before .before .decode .ensures) ∙ c .before .before .before .before .before .before .before .before .before .before .before .before .before .before .d .given .1) (sym (c .before .before .before .before .before .before .before .before .before .before .before .before .is-blocked .ensures) ∙ c .before .before .before .before .before .before .before .before .before .before .before .if1 .left) _ (c .before .before .before .before .before .before .before .before .before .o2 .given .1) (c .before .before .before .before .before .before .before .if6 .taken) _ (c .before .before .before .before .before .before .lines-at .ensures) _ (c .before .before .before .before .before .read-icu .ensures) in
     let u =
-    turn (a .self) (a .memory .now) (take (a .self .kept .length) (a .self .kept .bytes) ++ a .tape .now) (l .i) n _ (l .memory) (q .result) (l .memory) (l .answers) (p .last .0) (a .answers .now) _
+    turn (a .self) (a .memory .now) (take (a .size) (a .kept) ++ a .tape .now) (l .i) n _ (l .memory) (q .result) (l .memory) (l .answers) (p .last .0) (a .answers .now) _
     (l .inv .3) (l .inv .4) (l .inv .5) (q .ensures) (t .0) (t .1) (t .2) (p .ensures)
     in (omega (arith, c .before .before .before .before .before .before .before .before .before .before .before .before .before .before .before .before .before .before .loop-test .taken), l .inv .1, p .kept .0 ∙ l .inv .2, u .0, u .1, u .2, t .3)
 
@@ -352,7 +352,7 @@ tell-requires-10 : tie.Need-tell-requires-10 Inv-loop μ-loop
 tell-requires-10 c κs = omega (arith, c .before .before .before .before .before .before .before .before .before .before .before .before .before .before .before .before .loop .inv .2, c .before .before .before .before .before .before .before .before .before .before .before .before .before .before .before .before .before .before .before .before .before .least .ensures .1 .1, c .before .before .before .before .before .before .before .before .before .before .before .before .before .before .before .loop-test .taken)
 
 add-i-10 : tie.Need-add-i-10 Inv-loop μ-loop
-add-i-10 c = omega (arith, c .before .before .before .before .before .before .before .before .before .before .before .before .before .before .before .before .before .before .before .loop .inv .2, c .before .before .before .before .before .before .before .before .before .before .before .before .before .before .before .before .before .before .before .before .before .before .before .before .least .ensures .1 .1, c .before .before .before .before .before .before .before .before .before .before .before .before .before .before .before .before .before .before .loop-test .taken, c .before .before .before .before .before .before .before .before .before .before .before .before .before .before .before .before .before .before .before .before .before .before .before .before .before .before .before .before .before .before .before .good)
+add-i-10 c = omega (arith, c .before .before .before .before .before .before .before .before .before .before .before .before .before .before .before .before .before .before .before .loop .inv .2, c .before .before .before .before .before .before .before .before .before .before .before .before .before .before .before .before .before .before .before .before .before .before .before .before .least .ensures .1 .1, c .before .before .before .before .before .before .before .before .before .before .before .before .before .before .before .before .before .before .loop-test .taken, c .before .before .before .before .before .before .before .before .before .before .before .before .before .before .before .before .before .before .before .before .before .before .before .before .before .before .before .before .before .before .good)
 
 loop-less-10 : tie.Need-loop-less-10 Inv-loop μ-loop
 loop-less-10 c = omega (arith, c .before .before .before .before .before .before .before .before .before .before .before .before .before .before .before .before .before .before .loop-test .taken)
@@ -360,13 +360,13 @@ loop-less-10 c = omega (arith, c .before .before .before .before .before .before
 loop-again-10 : tie.Need-loop-again-10 Inv-loop μ-loop
 loop-again-10 c =
     let l = c .before .before .before .before .before .before .before .before .before .before .before .before .before .before .before .before .before .before .before .loop in
-    let a = c .before .before .before .before .before .before .before .before .before .before .before .before .before .before .before .before .before .before .before .before .before .before .before .before .before .before .before .before .before .before .before .args in
+    let a = c .before .before .before .before .before .before .before .before .before .before .before .before .before .before .before .before .before .before .before .before .before .before .before .before .before .before .before .before .before .before .args in
     let p = c .before .before .tell10 in
     let q = c .before .before .before .before .before .before .before .before .before .before .before .before .before .before .before .before .before .record-at in
     let n : Board = record { icu = l .icu; intp = l .intp; timer = l .timer; dma = l .dma; kept = a .self .kept } in
     let t = read-timer n (q .result) (l .memory) (l .levels) (l .inv .6) _ (sym (c .before .before .before .before .before .before .before .before .before .before .before .before .before .before .before .before .decode .ensures) ∙ c .before .before .before .before .before .before .before .before .before .before .before .before .before .before .d .given .1) (sym (c .before .before .before .before .before .before .before .before .before .before .before .before .is-blocked .ensures) ∙ c .before .before .before .before .before .before .before .before .before .before .before .if1 .left) _ (c .before .before .before .before .before .before .before .before .before .o2 .given .1) (c .before .before .before .before .before .before .before .if6 .left) (c .before .before .before .before .before .before .if7 .taken) (read-counter (q .result) _ (search needs) (sym (c .before .before .before .before .before .before .before .before .before .before .before .before .before .before .before .before .decode .ensures) ∙ c .before .before .before .before .before .before .before .before .before .before .before .before .before .before .d .given .1 ∙ ap (λ (x : Operation). Asked x) (c .before .before .before .before .before .before .before .before .before .o2 .given .1)) (eq-eqb _ _ (c .before .before .before .before .before .before .if7 .taken))) _ refl _ (c .before .before .before .before .look .ensures) in
     let u =
-    turn (a .self) (a .memory .now) (take (a .self .kept .length) (a .self .kept .bytes) ++ a .tape .now) (l .i) n _ (l .memory) (q .result) (l .memory) (l .answers) (p .last .0) (a .answers .now) _
+    turn (a .self) (a .memory .now) (take (a .size) (a .kept) ++ a .tape .now) (l .i) n _ (l .memory) (q .result) (l .memory) (l .answers) (p .last .0) (a .answers .now) _
     (l .inv .3) (l .inv .4) (l .inv .5) (q .ensures) (t .0) (t .1) (t .2) (p .ensures)
     in (omega (arith, c .before .before .before .before .before .before .before .before .before .before .before .before .before .before .before .before .before .before .loop-test .taken), l .inv .1, p .kept .0 ∙ l .inv .2, u .0, u .1, u .2, t .3)
 
@@ -377,7 +377,7 @@ tell-requires-11 : tie.Need-tell-requires-11 Inv-loop μ-loop
 tell-requires-11 c κs = omega (arith, c .before .before .before .before .before .before .before .before .before .before .before .before .before .before .before .loop .inv .2, c .before .before .before .before .before .before .before .before .before .before .before .before .before .before .before .before .before .before .before .before .least .ensures .1 .1, c .before .before .before .before .before .before .before .before .before .before .before .before .before .before .loop-test .taken)
 
 add-i-11 : tie.Need-add-i-11 Inv-loop μ-loop
-add-i-11 c = omega (arith, c .before .before .before .before .before .before .before .before .before .before .before .before .before .before .before .before .before .before .loop .inv .2, c .before .before .before .before .before .before .before .before .before .before .before .before .before .before .before .before .before .before .before .before .before .before .before .least .ensures .1 .1, c .before .before .before .before .before .before .before .before .before .before .before .before .before .before .before .before .before .loop-test .taken, c .before .before .before .before .before .before .before .before .before .before .before .before .before .before .before .before .before .before .before .before .before .before .before .before .before .before .before .before .before .before .good)
+add-i-11 c = omega (arith, c .before .before .before .before .before .before .before .before .before .before .before .before .before .before .before .before .before .before .loop .inv .2, c .before .before .before .before .before .before .before .before .before .before .before .before .before .before .before .before .before .before .before .before .before .before .before .least .ensures .1 .1, c .before .before .before .before .before .before .before .before .before .before .before .before .before .before .before .before .before .loop-test .taken, c .before .before .before .before .before .before .before .before .before .before .before .before .before .before .before .before .before .before .before .before .before .before .before .before .before .before .before .before .before .good)
 
 loop-less-11 : tie.Need-loop-less-11 Inv-loop μ-loop
 loop-less-11 c = omega (arith, c .before .before .before .before .before .before .before .before .before .before .before .before .before .before .before .before .before .loop-test .taken)
@@ -385,13 +385,13 @@ loop-less-11 c = omega (arith, c .before .before .before .before .before .before
 loop-again-11 : tie.Need-loop-again-11 Inv-loop μ-loop
 loop-again-11 c =
     let l = c .before .before .before .before .before .before .before .before .before .before .before .before .before .before .before .before .before .before .loop in
-    let a = c .before .before .before .before .before .before .before .before .before .before .before .before .before .before .before .before .before .before .before .before .before .before .before .before .before .before .before .before .before .before .args in
+    let a = c .before .before .before .before .before .before .before .before .before .before .before .before .before .before .before .before .before .before .before .before .before .before .before .before .before .before .before .before .before .args in
     let p = c .before .before .tell11 in
     let q = c .before .before .before .before .before .before .before .before .before .before .before .before .before .before .before .before .record-at in
     let n : Board = record { icu = l .icu; intp = l .intp; timer = l .timer; dma = l .dma; kept = a .self .kept } in
     let t = read-dma n (q .result) (l .memory) (l .levels) (l .inv .6) _ (sym (c .before .before .before .before .before .before .before .before .before .before .before .before .before .before .before .decode .ensures) ∙ c .before .before .before .before .before .before .before .before .before .before .before .before .before .d .given .1) (sym (c .before .before .before .before .before .before .before .before .before .before .before .is-blocked .ensures) ∙ c .before .before .before .before .before .before .before .before .before .before .if1 .left) _ (c .before .before .before .before .before .before .before .before .o2 .given .1) (c .before .before .before .before .before .before .if6 .left) (c .before .before .before .before .before .if7 .left) _ (c .before .before .before .before .look2 .ensures) in
     let u =
-    turn (a .self) (a .memory .now) (take (a .self .kept .length) (a .self .kept .bytes) ++ a .tape .now) (l .i) n _ (l .memory) (q .result) (l .memory) (l .answers) (p .last .0) (a .answers .now) _
+    turn (a .self) (a .memory .now) (take (a .size) (a .kept) ++ a .tape .now) (l .i) n _ (l .memory) (q .result) (l .memory) (l .answers) (p .last .0) (a .answers .now) _
     (l .inv .3) (l .inv .4) (l .inv .5) (q .ensures) (t .0) (t .1) (t .2) (p .ensures)
     in (omega (arith, c .before .before .before .before .before .before .before .before .before .before .before .before .before .before .before .before .before .loop-test .taken), l .inv .1, p .kept .0 ∙ l .inv .2, u .0, u .1, u .2, t .3)
 
@@ -405,7 +405,7 @@ tell-requires-12 : tie.Need-tell-requires-12 Inv-loop μ-loop
 tell-requires-12 c κs = omega (arith, c .before .before .before .before .before .before .before .before .before .before .before .before .before .before .loop .inv .2, c .before .before .before .before .before .before .before .before .before .before .before .before .before .before .before .before .before .before .before .least .ensures .1 .1, c .before .before .before .before .before .before .before .before .before .before .before .before .before .loop-test .taken)
 
 add-i-12 : tie.Need-add-i-12 Inv-loop μ-loop
-add-i-12 c = omega (arith, c .before .before .before .before .before .before .before .before .before .before .before .before .before .before .before .before .before .loop .inv .2, c .before .before .before .before .before .before .before .before .before .before .before .before .before .before .before .before .before .before .before .before .before .before .least .ensures .1 .1, c .before .before .before .before .before .before .before .before .before .before .before .before .before .before .before .before .loop-test .taken, c .before .before .before .before .before .before .before .before .before .before .before .before .before .before .before .before .before .before .before .before .before .before .before .before .before .before .before .before .before .good)
+add-i-12 c = omega (arith, c .before .before .before .before .before .before .before .before .before .before .before .before .before .before .before .before .before .loop .inv .2, c .before .before .before .before .before .before .before .before .before .before .before .before .before .before .before .before .before .before .before .before .before .before .least .ensures .1 .1, c .before .before .before .before .before .before .before .before .before .before .before .before .before .before .before .before .loop-test .taken, c .before .before .before .before .before .before .before .before .before .before .before .before .before .before .before .before .before .before .before .before .before .before .before .before .before .before .before .before .good)
 
 loop-less-12 : tie.Need-loop-less-12 Inv-loop μ-loop
 loop-less-12 c = omega (arith, c .before .before .before .before .before .before .before .before .before .before .before .before .before .before .before .before .loop-test .taken)
@@ -413,13 +413,13 @@ loop-less-12 c = omega (arith, c .before .before .before .before .before .before
 loop-again-12 : tie.Need-loop-again-12 Inv-loop μ-loop
 loop-again-12 c =
     let l = c .before .before .before .before .before .before .before .before .before .before .before .before .before .before .before .before .before .loop in
-    let a = c .before .before .before .before .before .before .before .before .before .before .before .before .before .before .before .before .before .before .before .before .before .before .before .before .before .before .before .before .before .args in
+    let a = c .before .before .before .before .before .before .before .before .before .before .before .before .before .before .before .before .before .before .before .before .before .before .before .before .before .before .before .before .args in
     let p = c .before .before .tell12 in
     let q = c .before .before .before .before .before .before .before .before .before .before .before .before .before .before .before .record-at in
     let n : Board = record { icu = l .icu; intp = l .intp; timer = l .timer; dma = l .dma; kept = a .self .kept } in
     let t = intp n (q .result) (l .memory) (l .levels) (l .inv .6) _ (sym (c .before .before .before .before .before .before .before .before .before .before .before .before .before .before .decode .ensures) ∙ c .before .before .before .before .before .before .before .before .before .before .before .before .d .given .1) (sym (c .before .before .before .before .before .before .before .before .before .before .is-blocked .ensures) ∙ c .before .before .before .before .before .before .before .before .before .if1 .left) _ (c .before .before .before .before .before .before .before .o3 .given .1) _ (c .before .before .before .before .before .rewire2 .ensures) in
     let u =
-    turn (a .self) (a .memory .now) (take (a .self .kept .length) (a .self .kept .bytes) ++ a .tape .now) (l .i) n _ (l .memory) (q .result) (l .memory) (l .answers) (p .last .0) (a .answers .now) _
+    turn (a .self) (a .memory .now) (take (a .size) (a .kept) ++ a .tape .now) (l .i) n _ (l .memory) (q .result) (l .memory) (l .answers) (p .last .0) (a .answers .now) _
     (l .inv .3) (l .inv .4) (l .inv .5) (q .ensures) (t .0) (t .1) (t .2) (p .ensures)
     in (omega (arith, c .before .before .before .before .before .before .before .before .before .before .before .before .before .before .before .before .loop-test .taken), l .inv .1, p .kept .0 ∙ l .inv .2, u .0, u .1, u .2, t .3)
 
@@ -436,7 +436,7 @@ tell-requires-13 : tie.Need-tell-requires-13 Inv-loop μ-loop
 tell-requires-13 c κs = omega (arith, c .before .before .before .before .before .before .before .before .before .before .before .before .before .before .before .loop .inv .2, c .before .before .before .before .before .before .before .before .before .before .before .before .before .before .before .before .before .before .before .before .least .ensures .1 .1, c .before .before .before .before .before .before .before .before .before .before .before .before .before .before .loop-test .taken)
 
 add-i-13 : tie.Need-add-i-13 Inv-loop μ-loop
-add-i-13 c = omega (arith, c .before .before .before .before .before .before .before .before .before .before .before .before .before .before .before .before .before .before .loop .inv .2, c .before .before .before .before .before .before .before .before .before .before .before .before .before .before .before .before .before .before .before .before .before .before .before .least .ensures .1 .1, c .before .before .before .before .before .before .before .before .before .before .before .before .before .before .before .before .before .loop-test .taken, c .before .before .before .before .before .before .before .before .before .before .before .before .before .before .before .before .before .before .before .before .before .before .before .before .before .before .before .before .before .before .good)
+add-i-13 c = omega (arith, c .before .before .before .before .before .before .before .before .before .before .before .before .before .before .before .before .before .before .loop .inv .2, c .before .before .before .before .before .before .before .before .before .before .before .before .before .before .before .before .before .before .before .before .before .before .before .least .ensures .1 .1, c .before .before .before .before .before .before .before .before .before .before .before .before .before .before .before .before .before .loop-test .taken, c .before .before .before .before .before .before .before .before .before .before .before .before .before .before .before .before .before .before .before .before .before .before .before .before .before .before .before .before .before .good)
 
 loop-less-13 : tie.Need-loop-less-13 Inv-loop μ-loop
 loop-less-13 c = omega (arith, c .before .before .before .before .before .before .before .before .before .before .before .before .before .before .before .before .before .loop-test .taken)
@@ -444,13 +444,13 @@ loop-less-13 c = omega (arith, c .before .before .before .before .before .before
 loop-again-13 : tie.Need-loop-again-13 Inv-loop μ-loop
 loop-again-13 c =
     let l = c .before .before .before .before .before .before .before .before .before .before .before .before .before .before .before .before .before .before .loop in
-    let a = c .before .before .before .before .before .before .before .before .before .before .before .before .before .before .before .before .before .before .before .before .before .before .before .before .before .before .before .before .before .before .args in
+    let a = c .before .before .before .before .before .before .before .before .before .before .before .before .before .before .before .before .before .before .before .before .before .before .before .before .before .before .before .before .before .args in
     let p = c .before .before .tell13 in
     let q = c .before .before .before .before .before .before .before .before .before .before .before .before .before .before .before .before .record-at in
     let n : Board = record { icu = l .icu; intp = l .intp; timer = l .timer; dma = l .dma; kept = a .self .kept } in
     let t = gates n (q .result) (l .memory) (l .levels) (l .inv .6) _ (sym (c .before .before .before .before .before .before .before .before .before .before .before .before .before .before .before .decode .ensures) ∙ c .before .before .before .before .before .before .before .before .before .before .before .before .before .d .given .1) (sym (c .before .before .before .before .before .before .before .before .before .before .before .is-blocked .ensures) ∙ c .before .before .before .before .before .before .before .before .before .before .if1 .left) _ (c .before .before .before .before .before .before .before .before .o4 .given .1) _ (c .before .before .before .before .before .before .set-gates .ensures) _ (c .before .before .before .before .before .rewire3 .ensures) in
     let u =
-    turn (a .self) (a .memory .now) (take (a .self .kept .length) (a .self .kept .bytes) ++ a .tape .now) (l .i) n _ (l .memory) (q .result) (l .memory) (l .answers) (p .last .0) (a .answers .now) _
+    turn (a .self) (a .memory .now) (take (a .size) (a .kept) ++ a .tape .now) (l .i) n _ (l .memory) (q .result) (l .memory) (l .answers) (p .last .0) (a .answers .now) _
     (l .inv .3) (l .inv .4) (l .inv .5) (q .ensures) (t .0) (t .1) (t .2) (p .ensures)
     in (omega (arith, c .before .before .before .before .before .before .before .before .before .before .before .before .before .before .before .before .before .loop-test .taken), l .inv .1, p .kept .0 ∙ l .inv .2, u .0, u .1, u .2, t .3)
 
@@ -464,7 +464,7 @@ tell-requires-14 : tie.Need-tell-requires-14 Inv-loop μ-loop
 tell-requires-14 c κs = omega (arith, c .before .before .before .before .before .before .before .before .before .before .before .before .before .loop .inv .2, c .before .before .before .before .before .before .before .before .before .before .before .before .before .before .before .before .before .before .least .ensures .1 .1, c .before .before .before .before .before .before .before .before .before .before .before .before .loop-test .taken)
 
 add-i-14 : tie.Need-add-i-14 Inv-loop μ-loop
-add-i-14 c = omega (arith, c .before .before .before .before .before .before .before .before .before .before .before .before .before .before .before .before .loop .inv .2, c .before .before .before .before .before .before .before .before .before .before .before .before .before .before .before .before .before .before .before .before .before .least .ensures .1 .1, c .before .before .before .before .before .before .before .before .before .before .before .before .before .before .before .loop-test .taken, c .before .before .before .before .before .before .before .before .before .before .before .before .before .before .before .before .before .before .before .before .before .before .before .before .before .before .before .before .good)
+add-i-14 c = omega (arith, c .before .before .before .before .before .before .before .before .before .before .before .before .before .before .before .before .loop .inv .2, c .before .before .before .before .before .before .before .before .before .before .before .before .before .before .before .before .before .before .before .before .before .least .ensures .1 .1, c .before .before .before .before .before .before .before .before .before .before .before .before .before .before .before .loop-test .taken, c .before .before .before .before .before .before .before .before .before .before .before .before .before .before .before .before .before .before .before .before .before .before .before .before .before .before .before .good)
 
 loop-less-14 : tie.Need-loop-less-14 Inv-loop μ-loop
 loop-less-14 c = omega (arith, c .before .before .before .before .before .before .before .before .before .before .before .before .before .before .before .loop-test .taken)
@@ -472,13 +472,13 @@ loop-less-14 c = omega (arith, c .before .before .before .before .before .before
 loop-again-14 : tie.Need-loop-again-14 Inv-loop μ-loop
 loop-again-14 c =
     let l = c .before .before .before .before .before .before .before .before .before .before .before .before .before .before .before .before .loop in
-    let a = c .before .before .before .before .before .before .before .before .before .before .before .before .before .before .before .before .before .before .before .before .before .before .before .before .before .before .before .before .args in
+    let a = c .before .before .before .before .before .before .before .before .before .before .before .before .before .before .before .before .before .before .before .before .before .before .before .before .before .before .before .args in
     let p = c .before .before .tell14 in
     let q = c .before .before .before .before .before .before .before .before .before .before .before .before .before .before .record-at in
     let n : Board = record { icu = l .icu; intp = l .intp; timer = l .timer; dma = l .dma; kept = a .self .kept } in
     let t = requests n (q .result) (l .memory) (l .levels) (l .inv .6) _ (sym (c .before .before .before .before .before .before .before .before .before .before .before .before .before .decode .ensures) ∙ c .before .before .before .before .before .before .before .before .before .before .before .d .given .1) (sym (c .before .before .before .before .before .before .before .before .before .is-blocked .ensures) ∙ c .before .before .before .before .before .before .before .before .if1 .left) _ (c .before .before .before .before .before .before .o5 .given .1) _ (c .before .before .before .before .set-requests .ensures) in
     let u =
-    turn (a .self) (a .memory .now) (take (a .self .kept .length) (a .self .kept .bytes) ++ a .tape .now) (l .i) n _ (l .memory) (q .result) (l .memory) (l .answers) (p .last .0) (a .answers .now) _
+    turn (a .self) (a .memory .now) (take (a .size) (a .kept) ++ a .tape .now) (l .i) n _ (l .memory) (q .result) (l .memory) (l .answers) (p .last .0) (a .answers .now) _
     (l .inv .3) (l .inv .4) (l .inv .5) (q .ensures) (t .0) (t .1) (t .2) (p .ensures)
     in (omega (arith, c .before .before .before .before .before .before .before .before .before .before .before .before .before .before .before .loop-test .taken), l .inv .1, p .kept .0 ∙ l .inv .2, u .0, u .1, u .2, t .3)
 
@@ -498,7 +498,7 @@ tell-requires-15 : tie.Need-tell-requires-15 Inv-loop μ-loop
 tell-requires-15 c κs = omega (arith, c .before .before .before .before .before .before .before .before .before .before .before .before .before .before .before .before .loop .inv .2, c .before .before .before .before .before .before .before .before .before .before .before .before .before .before .before .before .before .before .before .before .before .least .ensures .1 .1, c .before .before .before .before .before .before .before .before .before .before .before .before .before .before .before .loop-test .taken)
 
 add-i-15 : tie.Need-add-i-15 Inv-loop μ-loop
-add-i-15 c = omega (arith, c .before .before .before .before .before .before .before .before .before .before .before .before .before .before .before .before .before .before .before .loop .inv .2, c .before .before .before .before .before .before .before .before .before .before .before .before .before .before .before .before .before .before .before .before .before .before .before .before .least .ensures .1 .1, c .before .before .before .before .before .before .before .before .before .before .before .before .before .before .before .before .before .before .loop-test .taken, c .before .before .before .before .before .before .before .before .before .before .before .before .before .before .before .before .before .before .before .before .before .before .before .before .before .before .before .before .before .before .before .good)
+add-i-15 c = omega (arith, c .before .before .before .before .before .before .before .before .before .before .before .before .before .before .before .before .before .before .before .loop .inv .2, c .before .before .before .before .before .before .before .before .before .before .before .before .before .before .before .before .before .before .before .before .before .before .before .before .least .ensures .1 .1, c .before .before .before .before .before .before .before .before .before .before .before .before .before .before .before .before .before .before .loop-test .taken, c .before .before .before .before .before .before .before .before .before .before .before .before .before .before .before .before .before .before .before .before .before .before .before .before .before .before .before .before .before .before .good)
 
 loop-less-15 : tie.Need-loop-less-15 Inv-loop μ-loop
 loop-less-15 c = omega (arith, c .before .before .before .before .before .before .before .before .before .before .before .before .before .before .before .before .before .before .loop-test .taken)
@@ -506,13 +506,13 @@ loop-less-15 c = omega (arith, c .before .before .before .before .before .before
 loop-again-15 : tie.Need-loop-again-15 Inv-loop μ-loop
 loop-again-15 c =
     let l = c .before .before .before .before .before .before .before .before .before .before .before .before .before .before .before .before .before .before .before .loop in
-    let a = c .before .before .before .before .before .before .before .before .before .before .before .before .before .before .before .before .before .before .before .before .before .before .before .before .before .before .before .before .before .before .before .args in
+    let a = c .before .before .before .before .before .before .before .before .before .before .before .before .before .before .before .before .before .before .before .before .before .before .before .before .before .before .before .before .before .before .args in
     let p = c .before .before .tell15 in
     let q = c .before .before .before .before .before .before .before .before .before .before .before .before .before .before .before .before .before .record-at in
     let n : Board = record { icu = l .icu; intp = l .intp; timer = l .timer; dma = l .dma; kept = a .self .kept } in
     let t = acknowledge n (q .result) (l .memory) (l .levels) (l .inv .6) _ (sym (c .before .before .before .before .before .before .before .before .before .before .before .before .before .before .before .before .decode .ensures) ∙ c .before .before .before .before .before .before .before .before .before .before .before .before .before .before .d .given .1) (sym (c .before .before .before .before .before .before .before .before .before .before .before .before .is-blocked .ensures) ∙ c .before .before .before .before .before .before .before .before .before .before .before .if1 .left) (c .before .before .before .before .before .before .before .before .before .enum-told3 .given .1) _ (c .before .before .before .before .before .before .before .before .lines-at2 .ensures) _ _ (c .before .before .before .before .before .before .before .acknowledge .ensures) (c .before .before .before .before .levels-at2 .ensures) in
     let u =
-    turn (a .self) (a .memory .now) (take (a .self .kept .length) (a .self .kept .bytes) ++ a .tape .now) (l .i) n _ (l .memory) (q .result) (l .memory) (l .answers) (p .last .0) (a .answers .now) _
+    turn (a .self) (a .memory .now) (take (a .size) (a .kept) ++ a .tape .now) (l .i) n _ (l .memory) (q .result) (l .memory) (l .answers) (p .last .0) (a .answers .now) _
     (l .inv .3) (l .inv .4) (l .inv .5) (q .ensures) (t .0) (t .1) (t .2) (p .ensures)
     in (omega (arith, c .before .before .before .before .before .before .before .before .before .before .before .before .before .before .before .before .before .before .loop-test .taken), l .inv .1, p .kept .0 ∙ l .inv .2, u .0, u .1, u .2, t .3)
 
@@ -532,7 +532,7 @@ tell-requires-16 : tie.Need-tell-requires-16 Inv-loop μ-loop
 tell-requires-16 c κs = omega (arith, c .before .before .before .before .before .before .before .before .before .before .before .before .before .before .before .before .before .before .loop .inv .2, c .before .before .before .before .before .before .before .before .before .before .before .before .before .before .before .before .before .before .before .before .before .before .before .least .ensures .1 .1, c .before .before .before .before .before .before .before .before .before .before .before .before .before .before .before .before .before .loop-test .taken)
 
 add-i-16 : tie.Need-add-i-16 Inv-loop μ-loop
-add-i-16 c = omega (arith, c .before .before .before .before .before .before .before .before .before .before .before .before .before .before .before .before .before .before .before .before .before .loop .inv .2, c .before .before .before .before .before .before .before .before .before .before .before .before .before .before .before .before .before .before .before .before .before .before .before .before .before .before .least .ensures .1 .1, c .before .before .before .before .before .before .before .before .before .before .before .before .before .before .before .before .before .before .before .before .loop-test .taken, c .before .before .before .before .before .before .before .before .before .before .before .before .before .before .before .before .before .before .before .before .before .before .before .before .before .before .before .before .before .before .before .before .before .good)
+add-i-16 c = omega (arith, c .before .before .before .before .before .before .before .before .before .before .before .before .before .before .before .before .before .before .before .before .before .loop .inv .2, c .before .before .before .before .before .before .before .before .before .before .before .before .before .before .before .before .before .before .before .before .before .before .before .before .before .before .least .ensures .1 .1, c .before .before .before .before .before .before .before .before .before .before .before .before .before .before .before .before .before .before .before .before .loop-test .taken, c .before .before .before .before .before .before .before .before .before .before .before .before .before .before .before .before .before .before .before .before .before .before .before .before .before .before .before .before .before .before .before .before .good)
 
 loop-less-16 : tie.Need-loop-less-16 Inv-loop μ-loop
 loop-less-16 c = omega (arith, c .before .before .before .before .before .before .before .before .before .before .before .before .before .before .before .before .before .before .before .before .loop-test .taken)
@@ -540,13 +540,13 @@ loop-less-16 c = omega (arith, c .before .before .before .before .before .before
 loop-again-16 : tie.Need-loop-again-16 Inv-loop μ-loop
 loop-again-16 c =
     let l = c .before .before .before .before .before .before .before .before .before .before .before .before .before .before .before .before .before .before .before .before .before .loop in
-    let a = c .before .before .before .before .before .before .before .before .before .before .before .before .before .before .before .before .before .before .before .before .before .before .before .before .before .before .before .before .before .before .before .before .before .args in
+    let a = c .before .before .before .before .before .before .before .before .before .before .before .before .before .before .before .before .before .before .before .before .before .before .before .before .before .before .before .before .before .before .before .before .args in
     let p = c .before .before .tell16 in
     let q = c .before .before .before .before .before .before .before .before .before .before .before .before .before .before .before .before .before .before .before .record-at in
     let n : Board = record { icu = l .icu; intp = l .intp; timer = l .timer; dma = l .dma; kept = a .self .kept } in
     let t = advance n (q .result) (l .memory) (l .levels) (l .inv .6) _ (sym (c .before .before .before .before .before .before .before .before .before .before .before .before .before .before .before .before .before .before .decode .ensures) ∙ c .before .before .before .before .before .before .before .before .before .before .before .before .before .before .before .before .d .given .1) (sym (c .before .before .before .before .before .before .before .before .before .before .before .before .before .before .is-blocked .ensures) ∙ c .before .before .before .before .before .before .before .before .before .before .before .before .before .if1 .left) _ (c .before .before .before .before .before .before .before .before .before .before .before .o6 .given .1) _ _ _ (c .before .before .before .before .before .before .before .before .before .run-pulses .ensures) (c .before .before .before .before .before .levels-at3 .ensures) (c .before .before .before .rises-payload .ensures) in
     let u =
-    turn (a .self) (a .memory .now) (take (a .self .kept .length) (a .self .kept .bytes) ++ a .tape .now) (l .i) n _ (l .memory) (q .result) (l .memory) (l .answers) (p .last .0) (a .answers .now) _
+    turn (a .self) (a .memory .now) (take (a .size) (a .kept) ++ a .tape .now) (l .i) n _ (l .memory) (q .result) (l .memory) (l .answers) (p .last .0) (a .answers .now) _
     (l .inv .3) (l .inv .4) (l .inv .5) (q .ensures) (t .0) (t .1) (t .2) (p .ensures)
     in (omega (arith, c .before .before .before .before .before .before .before .before .before .before .before .before .before .before .before .before .before .before .before .before .loop-test .taken), l .inv .1, p .kept .0 ∙ l .inv .2, u .0, u .1, u .2, t .3)
 
@@ -584,7 +584,7 @@ tell-requires-17 : tie.Need-tell-requires-17 Inv-loop μ-loop
 tell-requires-17 c κs = omega (arith, c .before .before .before .before .before .before .before .before .before .before .before .before .before .before .before .before .before .before .before .before .before .loop .inv .2, c .before .before .before .before .before .before .before .before .before .before .before .before .before .before .before .before .before .before .before .before .before .before .before .before .before .before .least .ensures .1 .1, c .before .before .before .before .before .before .before .before .before .before .before .before .before .before .before .before .before .before .before .before .loop-test .taken)
 
 add-i-17 : tie.Need-add-i-17 Inv-loop μ-loop
-add-i-17 c = omega (arith, c .before .before .before .before .before .before .before .before .before .before .before .before .before .before .before .before .before .before .before .before .before .before .before .before .loop .inv .2, c .before .before .before .before .before .before .before .before .before .before .before .before .before .before .before .before .before .before .before .before .before .before .before .before .before .before .before .before .before .least .ensures .1 .1, c .before .before .before .before .before .before .before .before .before .before .before .before .before .before .before .before .before .before .before .before .before .before .before .loop-test .taken, c .before .before .before .before .before .before .before .before .before .before .before .before .before .before .before .before .before .before .before .before .before .before .before .before .before .before .before .before .before .before .before .before .before .before .before .before .good)
+add-i-17 c = omega (arith, c .before .before .before .before .before .before .before .before .before .before .before .before .before .before .before .before .before .before .before .before .before .before .before .before .loop .inv .2, c .before .before .before .before .before .before .before .before .before .before .before .before .before .before .before .before .before .before .before .before .before .before .before .before .before .before .before .before .before .least .ensures .1 .1, c .before .before .before .before .before .before .before .before .before .before .before .before .before .before .before .before .before .before .before .before .before .before .before .loop-test .taken, c .before .before .before .before .before .before .before .before .before .before .before .before .before .before .before .before .before .before .before .before .before .before .before .before .before .before .before .before .before .before .before .before .before .before .before .good)
 
 loop-less-17 : tie.Need-loop-less-17 Inv-loop μ-loop
 loop-less-17 c = omega (arith, c .before .before .before .before .before .before .before .before .before .before .before .before .before .before .before .before .before .before .before .before .before .before .before .loop-test .taken)
@@ -592,13 +592,13 @@ loop-less-17 c = omega (arith, c .before .before .before .before .before .before
 loop-again-17 : tie.Need-loop-again-17 Inv-loop μ-loop
 loop-again-17 c =
     let l = c .before .before .before .before .before .before .before .before .before .before .before .before .before .before .before .before .before .before .before .before .before .before .before .before .loop in
-    let a = c .before .before .before .before .before .before .before .before .before .before .before .before .before .before .before .before .before .before .before .before .before .before .before .before .before .before .before .before .before .before .before .before .before .before .before .before .args in
+    let a = c .before .before .before .before .before .before .before .before .before .before .before .before .before .before .before .before .before .before .before .before .before .before .before .before .before .before .before .before .before .before .before .before .before .before .before .args in
     let p = c .before .before .tell17 in
     let q = c .before .before .before .before .before .before .before .before .before .before .before .before .before .before .before .before .before .before .before .before .before .before .record-at in
     let n : Board = record { icu = l .icu; intp = l .intp; timer = l .timer; dma = l .dma; kept = a .self .kept } in
     let t = plain-unit n (q .result) (l .memory) (l .levels) (l .inv .6) _ (sym (c .before .before .before .before .before .before .before .before .before .before .before .before .before .before .before .before .before .before .before .before .before .decode .ensures) ∙ c .before .before .before .before .before .before .before .before .before .before .before .before .before .before .before .before .before .before .before .d .given .1) (sym (c .before .before .before .before .before .before .before .before .before .before .before .before .before .before .before .before .before .is-blocked .ensures) ∙ c .before .before .before .before .before .before .before .before .before .before .before .before .before .before .before .before .if1 .left) _ _ (c .before .before .before .before .before .before .before .before .before .before .before .before .before .before .o7 .given .1) (sym (c .before .before .before .before .before .before .before .before .before .before .before .is-plain .ensures) ∙ c .before .before .before .before .before .before .before .before .before .before .if8 .taken) _ _ _ _ (c .before .before .before .before .before .advance .ensures) (c .before .before .before .before .before .before .before .before .transfer .ensures .1) (c .before .before .before .before .before .before .before .before .transfer .ensures .0) (c .before .before .before .before .moved-payload .ensures) in
     let u =
-    turn (a .self) (a .memory .now) (take (a .self .kept .length) (a .self .kept .bytes) ++ a .tape .now) (l .i) n _ (l .memory) (q .result) (c .before .before .before .before .before .before .before .before .transfer .last .1 .1 .0) (l .answers) (p .last .0) (a .answers .now) _
+    turn (a .self) (a .memory .now) (take (a .size) (a .kept) ++ a .tape .now) (l .i) n _ (l .memory) (q .result) (c .before .before .before .before .before .before .before .before .transfer .last .1 .1 .0) (l .answers) (p .last .0) (a .answers .now) _
     (l .inv .3) (l .inv .4) (l .inv .5) (q .ensures) (t .0) (t .1) (t .2) (p .ensures)
     in (omega (arith, c .before .before .before .before .before .before .before .before .before .before .before .before .before .before .before .before .before .before .before .before .before .before .before .loop-test .taken), c .before .before .before .before .before .before .before .before .transfer .kept .1 .1 .0 ∙ l .inv .1, p .kept .0 ∙ l .inv .2, u .0, u .1, u .2, t .3)
 
@@ -615,7 +615,7 @@ tell-requires-18 : tie.Need-tell-requires-18 Inv-loop μ-loop
 tell-requires-18 c κs = omega (arith, c .before .before .before .before .before .before .before .before .before .before .before .before .before .before .before .before .before .before .before .before .before .before .loop .inv .2, c .before .before .before .before .before .before .before .before .before .before .before .before .before .before .before .before .before .before .before .before .before .before .before .before .before .before .before .least .ensures .1 .1, c .before .before .before .before .before .before .before .before .before .before .before .before .before .before .before .before .before .before .before .before .before .loop-test .taken)
 
 add-i-18 : tie.Need-add-i-18 Inv-loop μ-loop
-add-i-18 c = omega (arith, c .before .before .before .before .before .before .before .before .before .before .before .before .before .before .before .before .before .before .before .before .before .before .before .before .before .loop .inv .2, c .before .before .before .before .before .before .before .before .before .before .before .before .before .before .before .before .before .before .before .before .before .before .before .before .before .before .before .before .before .before .least .ensures .1 .1, c .before .before .before .before .before .before .before .before .before .before .before .before .before .before .before .before .before .before .before .before .before .before .before .before .loop-test .taken, c .before .before .before .before .before .before .before .before .before .before .before .before .before .before .before .before .before .before .before .before .before .before .before .before .before .before .before .before .before .before .before .before .before .before .before .before .before .good)
+add-i-18 c = omega (arith, c .before .before .before .before .before .before .before .before .before .before .before .before .before .before .before .before .before .before .before .before .before .before .before .before .before .loop .inv .2, c .before .before .before .before .before .before .before .before .before .before .before .before .before .before .before .before .before .before .before .before .before .before .before .before .before .before .before .before .before .before .least .ensures .1 .1, c .before .before .before .before .before .before .before .before .before .before .before .before .before .before .before .before .before .before .before .before .before .before .before .before .loop-test .taken, c .before .before .before .before .before .before .before .before .before .before .before .before .before .before .before .before .before .before .before .before .before .before .before .before .before .before .before .before .before .before .before .before .before .before .before .before .good)
 
 loop-less-18 : tie.Need-loop-less-18 Inv-loop μ-loop
 loop-less-18 c = omega (arith, c .before .before .before .before .before .before .before .before .before .before .before .before .before .before .before .before .before .before .before .before .before .before .before .before .loop-test .taken)
@@ -623,13 +623,13 @@ loop-less-18 c = omega (arith, c .before .before .before .before .before .before
 loop-again-18 : tie.Need-loop-again-18 Inv-loop μ-loop
 loop-again-18 c =
     let l = c .before .before .before .before .before .before .before .before .before .before .before .before .before .before .before .before .before .before .before .before .before .before .before .before .before .loop in
-    let a = c .before .before .before .before .before .before .before .before .before .before .before .before .before .before .before .before .before .before .before .before .before .before .before .before .before .before .before .before .before .before .before .before .before .before .before .before .before .args in
+    let a = c .before .before .before .before .before .before .before .before .before .before .before .before .before .before .before .before .before .before .before .before .before .before .before .before .before .before .before .before .before .before .before .before .before .before .before .before .args in
     let p = c .before .before .tell18 in
     let q = c .before .before .before .before .before .before .before .before .before .before .before .before .before .before .before .before .before .before .before .before .before .before .before .record-at in
     let n : Board = record { icu = l .icu; intp = l .intp; timer = l .timer; dma = l .dma; kept = a .self .kept } in
     let t = cycle-by-call n (q .result) (l .memory) (l .levels) (l .inv .6) _ (sym (c .before .before .before .before .before .before .before .before .before .before .before .before .before .before .before .before .before .before .before .before .before .before .decode .ensures) ∙ c .before .before .before .before .before .before .before .before .before .before .before .before .before .before .before .before .before .before .before .before .d .given .1) (sym (c .before .before .before .before .before .before .before .before .before .before .before .before .before .before .before .before .before .before .is-blocked .ensures) ∙ c .before .before .before .before .before .before .before .before .before .before .before .before .before .before .before .before .before .if1 .left) _ _ (c .before .before .before .before .before .before .before .before .before .before .before .before .before .before .before .o7 .given .1) _ (c .before .before .before .before .before .before .before .before .before .cycle .result .report) _ _ _ (c .before .before .before .before .before .before .before .before .before .cycle .ensures .0) (c .before .before .before .before .before .before .before .before .before .cycle .ensures .1 .0) (c .before .before .before .before .before .before .before .before .before .cycle .ensures .1 .1) (c .before .before .before .before .byte-moved .ensures) (c .before .before .before .payload .ensures) in
     let u =
-    turn (a .self) (a .memory .now) (take (a .self .kept .length) (a .self .kept .bytes) ++ a .tape .now) (l .i) n _ (l .memory) (q .result) (c .before .before .before .before .before .before .before .before .before .cycle .last .1 .1 .1 .0) (l .answers) (p .last .0) (a .answers .now) _
+    turn (a .self) (a .memory .now) (take (a .size) (a .kept) ++ a .tape .now) (l .i) n _ (l .memory) (q .result) (c .before .before .before .before .before .before .before .before .before .cycle .last .1 .1 .1 .0) (l .answers) (p .last .0) (a .answers .now) _
     (l .inv .3) (l .inv .4) (l .inv .5) (q .ensures) (t .0) (t .1) (t .2) (p .ensures)
     in (omega (arith, c .before .before .before .before .before .before .before .before .before .before .before .before .before .before .before .before .before .before .before .before .before .before .before .before .loop-test .taken), c .before .before .before .before .before .before .before .before .before .cycle .kept .1 .1 .1 .0 ∙ l .inv .1, p .kept .0 ∙ l .inv .2, u .0, u .1, u .2, t .3)
 
@@ -642,9 +642,9 @@ same-length-2 c = c .before .loop .inv .2
 returns : tie.Need-returns Inv-loop μ-loop
 returns c =
     let l = c .before .loop in
-    let a = c .before .before .before .before .before .before .before .before .before .before .before .before .before .args in
-    let k : c .before .before .before .before .before .before .least .result ≡ fitting (a .self) (a .tape .now) (length (a .answers .now)) = c .before .before .before .before .before .before .least .ensures .0 ∙ rw (c .before .before .before .before .before .before .before .count-bytes .ensures .0) in
-    let e : l .i ≡ fitting (a .self) (a .tape .now) (length (a .answers .now)) = omega (arith, l .inv .0, c .loop-test .left, k)
+    let a = c .before .before .before .before .before .before .before .before .before .before .before .before .args in
+    let k : c .before .before .before .before .before .before .least .result ≡ fitting (take (a .size) (a .kept) ++ a .tape .now) (length (a .answers .now)) = c .before .before .before .before .before .before .least .ensures .0 ∙ rw (c .before .before .before .before .before .before .before .count-bytes .ensures .0) in
+    let e : l .i ≡ fitting (take (a .size) (a .kept) ++ a .tape .now) (length (a .answers .now)) = omega (arith, l .inv .0, c .loop-test .left, k)
     in (rw (← e) (l .inv .3), (rw (← e) (l .inv .4), rw (← e) (l .inv .5)))
 
 pub run-spec : {M : Type 1} → statement M
