@@ -3,6 +3,7 @@ ghost use mathlib.Core.Path.{_≡_};
 ghost use mathlib.Core.List.{_++_};
 ghost use Prim.Native.Nat.{_+_, _*_, _≤_};
 ghost use lib.ListN.{length, take};
+ghost use Rattle.tape.specs.Records.{heldOf};
 ghost use Rattle.intake.specs.Ranges.{iw1Good, icuGood, counterGood, timerGood, channelGood, channelsGood, dmaGood, inRange};
 ghost use Rattle.intake.specs.Records.{restAt};
 ghost use Rattle.intake.specs.Feed.{fedOf, fedMemory, fedAnswers};
@@ -24,11 +25,12 @@ pub struct Fed {
 
 // The bytes from record i on, which are fewer than eight, and zeros after them. Where none are left, nothing is looked up.
 fn rest_at(kept: [u8; 7], size: u8, tape: &[u8], i: usize) -> [u8; 7]
-    requires { ⌜ 8 * i ≤ length (take size kept ++ now tape) ⌝ }
+    requires { ⌜ 8 * i ≤ heldOf size + length (now tape) ⌝ }
     ensures { λ r. ⌜ r ≡ restAt (take size kept ++ now (tape .entry)) i ⌝ }
 {
+    let total = tape::count_bytes(kept, size, tape);
     let at = 8 * i;
-    if at == tape::count_bytes(kept, size, tape) {
+    if at == total {
         return [0u8; 7];
     }
     let b0 = tape::byte_at(kept, size, tape, at);
