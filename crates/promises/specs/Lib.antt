@@ -29,4 +29,3 @@ pub mod Meant
 pub mod Worked
 pub mod Opened
 pub mod Examples
-pub mod Exact

@@ -1,5 +1,5 @@
--- The ranges are exact: each value that the range of a field has is there on some board reached from reset. (Reached.antt has the
--- other half: no reached board has another.)
+-- The ranges are exact: each value that the range of a field has is there on some board reached from reset. (Reached.antt of `promises`
+-- has the other half: no reached board has another.)
 use Prim.Native.Nat.{ℕ, zero, suc, _+_, _-_, _*_, _/_, _%_, _^_, _<_, _≤_}
 use mathlib.Core.Path.{_≡_, refl, ap, _∙_}
 use mathlib.Core.Bool.{Bool, true, false, not}
