@@ -1,8 +1,11 @@
-/* driver compare SEED TAPES   feeds random tapes in random lumps to both boards and compares every answer and the memory
- * driver time REPEATS [WORD]  times both boards on the same tapes, by turns, and prints the ratios; with WORD the lines that have it
+/* driver compare SEED TAPES       feeds random tapes in random lumps to both boards and compares every answer and the memory
+ * driver time REPEATS [WORD]      times both boards on the same tapes, by turns, and prints the ratios; with WORD the lines that have it
+ * driver count KIND proved|plain  runs the tape of a timed line once through one board, and prints its items and the line's words
+ * driver count                    prints the kinds of the lines that can be counted
  *
  * Both boards are called the same way: a whole tape, or a lump of it, through one function each. Every timed run's answers are compared too. Times
- * are of the processor's time of this process, so that other work on the machine counts as little as it can. */
+ * are of the processor's time of this process, so that other work on the machine counts as little as it can. `count` is for a tool that counts the
+ * instructions inside feed_proved or feed_plain: those two are never inlined, and keep their names. */
 #include "../hosts/limbusagin.h"
 #include "board.h"
 
@@ -30,7 +33,7 @@ static byte *tape, *answers[2], *memory[2], *start_memory;
 static struct limbusagin_board proved;
 static struct plain_board plain;
 
-static int feed_proved(const byte *t, length n, byte *m, length mn, byte *a, length an, length *records)
+__attribute__((noinline)) static int feed_proved(const byte *t, length n, byte *m, length mn, byte *a, length an, length *records)
 {
     struct limbusagin_fed fed = limbusagin_feed(proved, t, n, m, mn, a, an);
     proved = fed.board;
@@ -38,7 +41,7 @@ static int feed_proved(const byte *t, length n, byte *m, length mn, byte *a, len
     return fed.status;
 }
 
-static int feed_plain(const byte *t, length n, byte *m, length mn, byte *a, length an, length *records)
+__attribute__((noinline)) static int feed_plain(const byte *t, length n, byte *m, length mn, byte *a, length an, length *records)
 {
     return plain_feed(&plain, t, n, m, mn, a, an, records);
 }
@@ -227,50 +230,27 @@ static void sort(double *x, int n)
         }
 }
 
-static const char *only = "";
+enum { NO_MODE, RUNNING, GATES_LOW };
 
-static void measure(const char *what, int repeats, double items, length piece, length lump)
-{
-    static double ratio[1000], spent[2][1000];
-    if (!strstr(what, only))
-        return;
-    for (int i = -1; i < repeats; i++) { /* the first is not counted */
-        double t[2];
-        memcpy(memory[0], start_memory, MEMORY), memcpy(memory[1], start_memory, MEMORY);
-        for (int turn = 0; turn < 2; turn++) {
-            int who = (i & 1) ^ turn;
-            t[who] = run(who, piece, lump);
-        }
-        compare(what, size / 8, MEMORY);
-        if (i < 0)
-            continue;
-        ratio[i] = t[0] / t[1];
-        spent[0][i] = t[0] / items, spent[1][i] = t[1] / items;
-    }
-    sort(ratio, repeats), sort(spent[0], repeats), sort(spent[1], repeats);
-    printf("%-44s %6.2f %6.2f %6.2f   %8.2f %8.2f\n", what, ratio[0], ratio[repeats / 2], ratio[repeats - 1], spent[0][repeats / 2],
-           spent[1][repeats / 2]);
-    fflush(0);
-}
-
-static double pulses_tape(int kind)
+static double pulses_tape(length advances, length how)
 {
     static const byte modes[3] = {0x34, 0x74, 0xB0}, low[3] = {3, 0xE8, 0}, high[3] = {0, 3, 0};
     size = 0;
     set_up();
-    for (unsigned c = 0; kind && c < 3; c++)
+    for (unsigned c = 0; how != NO_MODE && c < 3; c++)
         put(1, 0x13, modes[c]), put(1, 0x10 + c, low[c]), put(1, 0x10 + c, high[c]);
     put_advance(1);
-    if (kind == 2)
+    if (how == GATES_LOW)
         put(3, 1, 0);
-    for (int i = 0; i < 20; i++)
+    for (length i = 0; i < advances; i++)
         put_advance(65535);
-    return 20 * 65535.0;
+    return (double)advances * 65535;
 }
 
-static double reads_tape(void)
+static double reads_tape(length records, length how)
 {
     static const byte ports[] = {0x00, 0x01, 0x10, 0x11, 0x12, 0x21, 0x22, 0x23, 0x24, 0x25, 0x26, 0x28, 0x29, 0x2A, 0x2B, 0x2F};
+    (void)how;
     size = 0;
     state = 5;
     set_up();
@@ -279,19 +259,19 @@ static double reads_tape(void)
     put_advance(300);
     for (unsigned r = 2; r < 7; r++)
         put(1, 0x20 + r, below(256));
-    while (size < 8 * 200000)
+    while (size < 8 * records)
         put(2, ports[below(16)], 0);
-    return 200000;
+    return (double)records;
 }
 
-static double units_tape(unsigned mode)
+static double units_tape(length records, length mode)
 {
     size = 0;
     state = 6;
-    put(1, 0x22, 0xFF), put(1, 0x23, 0xFF), put(1, 0x2A, mode), put(1, 0x2F, 0x0E), put(3, 2, 1);
-    while (size < 8 * 200000)
+    put(1, 0x22, 0xFF), put(1, 0x23, 0xFF), put(1, 0x2A, (unsigned)mode), put(1, 0x2F, 0x0E), put(3, 2, 1);
+    while (size < 8 * records)
         put(6, 0, below(256));
-    return 200000;
+    return (double)records;
 }
 
 /* So many records, the chips set up anew for each piece. */
@@ -307,22 +287,84 @@ static double mixed_tape(length records, length piece)
     return (double)records;
 }
 
-static void time_all(int repeats)
+/* The lines: each is a tape, and how it is run. */
+struct line {
+    const char *kind, *what; /* the kind is empty where instructions are not counted */
+    double (*make)(length, length);
+    length much, how;   /* what make is given */
+    length piece, lump; /* in records; 0 is the whole tape */
+};
+
+static const struct line lines[] = {
+    {"running", "pulse, three counters running", pulses_tape, 20, RUNNING, 0, 0},
+    {"idle", "pulse, idle (no mode set)", pulses_tape, 20, NO_MODE, 0, 0},
+    {"gates", "pulse, idle (gates low)", pulses_tape, 20, GATES_LOW, 0, 0},
+    {"mixed", "record, mixed", mixed_tape, 200000, 200000, 0, 0},
+    {"reads", "record, register reads", reads_tape, 200000, 0, 0, 0},
+    {"in", "unit, block, device to memory", units_tape, 200000, 0x94, 0, 0},
+    {"out", "unit, block, memory to device", units_tape, 200000, 0x98, 0, 0},
+    {"", "record, mixed, tapes of 1,000", mixed_tape, MOST, 1000, 1000, 0},
+    {"", "record, mixed, tapes of 10,000", mixed_tape, MOST, 10000, 10000, 0},
+    {"", "record, mixed, tapes of 100,000", mixed_tape, MOST, 100000, 100000, 0},
+    {"", "record, mixed, a tape of 1,000,000", mixed_tape, MOST, MOST, 0, 0},
+    {"each", "record, mixed, a call for each", mixed_tape, 200000, 200000, 0, 1},
+};
+enum { LINES = sizeof lines / sizeof *lines };
+
+static double run_line(const struct line *l, int who)
 {
-    double n;
+    return run(who, l->piece ? 8 * l->piece : size, l->lump ? 8 * l->lump : size);
+}
+
+static void measure(const struct line *l, int repeats)
+{
+    static double ratio[1000], spent[2][1000];
+    double items = l->make(l->much, l->how);
+    for (int i = -1; i < repeats; i++) { /* the first is not counted */
+        double t[2];
+        memcpy(memory[0], start_memory, MEMORY), memcpy(memory[1], start_memory, MEMORY);
+        for (int turn = 0; turn < 2; turn++) {
+            int who = (i & 1) ^ turn;
+            t[who] = run_line(l, who);
+        }
+        compare(l->what, size / 8, MEMORY);
+        if (i < 0)
+            continue;
+        ratio[i] = t[0] / t[1];
+        spent[0][i] = t[0] / items, spent[1][i] = t[1] / items;
+    }
+    sort(ratio, repeats), sort(spent[0], repeats), sort(spent[1], repeats);
+    printf("%-44s %6.2f %6.2f %6.2f   %8.2f %8.2f\n", l->what, ratio[0], ratio[repeats / 2], ratio[repeats - 1], spent[0][repeats / 2],
+           spent[1][repeats / 2]);
+    fflush(0);
+}
+
+static void time_all(int repeats, const char *only)
+{
     printf("%-44s %6s %6s %6s   %8s %8s\n", "proved / plain C, and ns for each", "least", "median", "most", "proved", "plain C");
-    n = pulses_tape(1), measure("pulse, three counters running", repeats, n, size, size);
-    n = pulses_tape(0), measure("pulse, idle (no mode set)", repeats, n, size, size);
-    n = pulses_tape(2), measure("pulse, idle (gates low)", repeats, n, size, size);
-    n = mixed_tape(200000, 200000), measure("record, mixed", repeats, n, size, size);
-    n = reads_tape(), measure("record, register reads", repeats, n, size, size);
-    n = units_tape(0x94), measure("unit, block, device to memory", repeats, n, size, size);
-    n = units_tape(0x98), measure("unit, block, memory to device", repeats, n, size, size);
-    n = mixed_tape(MOST, 1000), measure("record, mixed, tapes of 1,000", repeats, n, 8 * 1000, size);
-    n = mixed_tape(MOST, 10000), measure("record, mixed, tapes of 10,000", repeats, n, 8 * 10000, size);
-    n = mixed_tape(MOST, 100000), measure("record, mixed, tapes of 100,000", repeats, n, 8 * 100000, size);
-    n = mixed_tape(MOST, MOST), measure("record, mixed, a tape of 1,000,000", repeats, n, size, size);
-    n = mixed_tape(200000, 200000), measure("record, mixed, a call for each", repeats, n, size, 8);
+    for (int i = 0; i < LINES; i++)
+        if (strstr(lines[i].what, only))
+            measure(&lines[i], repeats);
+}
+
+static void count(const char *kind, int who)
+{
+    for (int i = 0; i < LINES; i++)
+        if (*kind && !strcmp(lines[i].kind, kind)) {
+            double items = lines[i].make(lines[i].much, lines[i].how);
+            memcpy(memory[who], start_memory, MEMORY);
+            run_line(&lines[i], who);
+            printf("%.0f %s\n", items, lines[i].what);
+            return;
+        }
+    printf("driver: %s is not a kind that is counted\n", kind), exit(2);
+}
+
+static void list_kinds(void)
+{
+    for (int i = 0; i < LINES; i++)
+        if (*lines[i].kind)
+            printf("%s\n", lines[i].kind);
 }
 
 int main(int words, char **word)
@@ -337,8 +379,12 @@ int main(int words, char **word)
     if (words == 4 && !strcmp(word[1], "compare"))
         compare_random(strtoul(word[2], 0, 10), strtoul(word[3], 0, 10));
     else if ((words == 3 || words == 4) && !strcmp(word[1], "time"))
-        only = words == 4 ? word[3] : "", time_all((int)strtoul(word[2], 0, 10));
+        time_all((int)strtoul(word[2], 0, 10), words == 4 ? word[3] : "");
+    else if (words == 4 && !strcmp(word[1], "count") && (!strcmp(word[3], "proved") || !strcmp(word[3], "plain")))
+        count(word[2], !strcmp(word[3], "plain"));
+    else if (words == 2 && !strcmp(word[1], "count"))
+        list_kinds();
     else
-        printf("usage: driver compare SEED TAPES; driver time REPEATS [WORD]\n"), exit(2);
+        printf("usage: driver compare SEED TAPES; driver time REPEATS [WORD]; driver count [KIND proved|plain]\n"), exit(2);
     return 0;
 }
