@@ -53,6 +53,14 @@ put-same f l i c h n = by (eqb n i) (ltb i (length l)) refl refl
     by true false q v = rw (set-out l i c (ltb-false i (length l) v))
     by true true q v = rw (eqb-true n i q, getD-set-same l i c blank (ltb-true i (length l) v)) h
 
+-- An answer leaves the value, and where a writing stands. (A record: two equations side by side, carried through a chain of cases, are dear to check.)
+record Untouched (c : Counter) (a : Answer) : Type 0 where
+  writing : writingOf (a .counter) ≡ writingOf c
+  value : valueOf (a .counter) ≡ valueOf c
+
+leaves : {c : Counter} {a : Answer} → writingOf (a .counter) ≡ writingOf c → valueOf (a .counter) ≡ valueOf c → Untouched c a
+leaves w v = record { writing = w; value = v }
+
 -- Writing leaves the counter's value.
 module _ (c : Counter) where
   abbrev S : Answer → Type 0
@@ -103,17 +111,14 @@ module _ (c : Counter) where
       x
 
   -- A read leaves the value and where a writing stands.
-  abbrev R : Answer → Type 0
-  R a = (writingOf (a .counter) ≡ writingOf c) × (valueOf (a .counter) ≡ valueOf c)
-
-  read-same : R (readOf c)
+  read-same : Untouched c (readOf c)
   unfolding readOf writingOf valueOf
   read-same =
-      either R (moded c)
-      (λ _. either R (eqb (c .format) 1) (λ _. (refl, refl))
-      (λ _. either R (eqb (c .format) 2) (λ _. (refl, refl))
-      (λ _. either R (c .second) (λ _. (refl, refl)) (λ _. (refl, refl)))))
-      (λ _. (refl, refl))
+      either (Untouched c) (moded c)
+      (λ _. either (Untouched c) (eqb (c .format) 1) (λ _. leaves refl refl)
+      (λ _. either (Untouched c) (eqb (c .format) 2) (λ _. leaves refl refl)
+      (λ _. either (Untouched c) (c .second) (λ _. leaves refl refl) (λ _. leaves refl refl))))
+      (λ _. leaves refl refl)
 
   -- A gate leaves the value.
   gate-value : (k : Bool) → valueOf (gateOf c k) ≡ valueOf c
@@ -145,13 +150,13 @@ module _ (t : Timer) (n : ℕ) where
   unfolding readsOf gotBy
   reads-writing a =
       either (λ (w : Got). writingOf (at (w .timer) n) ≡ writingOf (at t n)) (eqb (a % 4) 3) (λ _. refl)
-      (λ _. put-same writingOf (t .counters) (a % 4) (readOf (at t (a % 4)) .counter) (read-same (at t (a % 4)) .0) n)
+      (λ _. put-same writingOf (t .counters) (a % 4) (readOf (at t (a % 4)) .counter) (read-same (at t (a % 4)) .writing) n)
 
   pub reads-value : (a : ℕ) → valueOf (at (readsOf t a .timer) n) ≡ valueOf (at t n)
   unfolding readsOf gotBy
   reads-value a =
       either (λ (w : Got). valueOf (at (w .timer) n) ≡ valueOf (at t n)) (eqb (a % 4) 3) (λ _. refl)
-      (λ _. put-same valueOf (t .counters) (a % 4) (readOf (at t (a % 4)) .counter) (read-same (at t (a % 4)) .1) n)
+      (λ _. put-same valueOf (t .counters) (a % 4) (readOf (at t (a % 4)) .counter) (read-same (at t (a % 4)) .value) n)
 
   pub gates-value : n < 3 → (l : ℕ) → valueOf (at (gatesOf t l) n) ≡ valueOf (at t n)
   unfolding gatesOf

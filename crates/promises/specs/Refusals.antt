@@ -31,45 +31,52 @@ use Rattle.promises.specs.Decodes.{either}
 no : {A : Type 0} → true ≡ false → A
 no h = absurd (true≢false h)
 
--- The interrupt chip: what is not done is a refusal, which has no data and no payload and leaves the chip.
+-- The interrupt chip: what is not done is a refusal, which has no data and no payload and leaves the chip. (A record: carried through a chain of
+-- cases, the function itself is dear to check.)
+record Refusal (c : Icu) (t : IcuAnswers.Told) : Type 0 where
+  stands : eqb (t .status) 0 ≡ false → t ≡ IcuAnswers.refused (t .status) c
+
+plain : {c : Icu} {t : IcuAnswers.Told} → (eqb (t .status) 0 ≡ false → t ≡ IcuAnswers.refused (t .status) c) → Refusal c t
+plain f = record { stands = f }
+
 module _ (c : Icu) where
   abbrev Q : IcuAnswers.Told → Type 0
-  Q t = eqb (t .status) 0 ≡ false → t ≡ IcuAnswers.refused (t .status) c
+  Q = Refusal c
 
   icu-write : (k : Bool) (x : ℕ) → Q (IcuWords.writeOf c k x)
   unfolding IcuWords.writeOf IcuWords.laterWord IcuWords.mcw
   icu-write k x =
       either Q k
-      (λ _. either Q (IcuWords.ready c) (λ _. no)
-      (λ _. either Q (eqb (c .stage) 1) (λ _. no) (λ _. either Q (eqb (c .stage) 2) (λ _. no) (λ _ h. refl))))
-      (λ _. either Q (bitOf x 4) (λ _. either Q (bitOf x 1) (λ _. no) (λ _ h. refl))
+      (λ _. either Q (IcuWords.ready c) (λ _. plain no)
+      (λ _. either Q (eqb (c .stage) 1) (λ _. plain no) (λ _. either Q (eqb (c .stage) 2) (λ _. plain no) (λ _. plain (λ h. refl)))))
+      (λ _. either Q (bitOf x 4) (λ _. either Q (bitOf x 1) (λ _. plain no) (λ _. plain (λ h. refl)))
       (λ _. either Q (IcuWords.ready c)
       (λ _. either Q (bitOf x 3)
-      (λ _. either Q (bitOf x 2) (λ _ h. refl)
-      (λ _. either Q (IcuWords.setsExceptional x) (λ _ h. refl) (λ _. either Q (bitOf x 1) (λ _. no) (λ _. no))))
-      (λ _. no))
-      (λ _ h. refl)))
+      (λ _. either Q (bitOf x 2) (λ _. plain (λ h. refl))
+      (λ _. either Q (IcuWords.setsExceptional x) (λ _. plain (λ h. refl)) (λ _. either Q (bitOf x 1) (λ _. plain no) (λ _. plain no))))
+      (λ _. plain no))
+      (λ _. plain (λ h. refl))))
 
   icu-read : (k : Bool) (l : ℕ) → Q (IcuService.readOf c k l)
   unfolding IcuService.readOf
   icu-read k l =
       either Q (IcuWords.ready c)
-      (λ _. either Q k (λ _. no) (λ _. either Q (c .showsisr) (λ _. no) (λ _. no)))
-      (λ _ h. refl)
+      (λ _. either Q k (λ _. plain no) (λ _. either Q (c .showsisr) (λ _. plain no) (λ _. plain no)))
+      (λ _. plain (λ h. refl))
 
   icu-acknowledge : (l : ℕ) → Q (IcuService.acknowledgeOf c l)
   unfolding IcuService.acknowledgeOf
   icu-acknowledge l =
       either Q (IcuWords.ready c)
-      (λ _. either Q (intOf c l) (λ _. either Q (c .vector) (λ _. no) (λ _. no)) (λ _ h. refl))
-      (λ _ h. refl)
+      (λ _. either Q (intOf c l) (λ _. either Q (c .vector) (λ _. plain no) (λ _. plain no)) (λ _. plain (λ h. refl)))
+      (λ _. plain (λ h. refl))
 
 module _ (b : Board) where
   abbrev P : Outcome → Type 0
   P o = eqb (o .status) 0 ≡ false → o ≡ refused (o .status) b
 
   icu-plain : (t : IcuAnswers.Told) → Q (b .icu) t → P (icuTold b t)
-  icu-plain t q h = ap (icuTold b) (q h)
+  icu-plain t q h = ap (icuTold b) (q .stands h)
 
   write-plain : (p x : ℕ) → P (writeOf b p x)
   unfolding writeOf timerWritten dmaWritten

@@ -107,28 +107,34 @@ port-of p h z o = at (ltb p 2) (leb 16 p) (ltb p 20) (dmaPort p) (not (eqb p 39)
     at false false c true v x y w h = refl
     at false false c false v x y w h = h
 
--- A read of a register leaves channels and service.
-read-still : (d : Dma) (p : ℕ)
-    → (DmaRegisters.readOf d p .dma .channels ≡ d .channels)
-    × (DmaRegisters.readOf d p .dma .serving ≡ d .serving)
-    × (DmaRegisters.readOf d p .dma .channel ≡ d .channel)
+-- Channels and service are as they were. (A record: three equations side by side, carried through a chain of cases, are dear to check.)
+record Unmoved (d e : Dma) : Type 0 where
+  channels : e .channels ≡ d .channels
+  serving : e .serving ≡ d .serving
+  channel : e .channel ≡ d .channel
+
+as-it-was : {d e : Dma} → e .channels ≡ d .channels → e .serving ≡ d .serving → e .channel ≡ d .channel → Unmoved d e
+as-it-was a b c = record { channels = a; serving = b; channel = c }
+
+-- A read of a register leaves them.
+read-still : (d : Dma) (p : ℕ) → Unmoved d (DmaRegisters.readOf d p .dma)
 unfolding DmaRegisters.readOf
 read-still d p =
-    either P (eqb n 0) (λ _. (refl, refl, refl))
-    (λ _. either P (eqb n 1) (λ _. (refl, refl, refl))
-    (λ _. either P (leb n 6) (λ _. (refl, refl, refl))
-    (λ _. either P (eqb n 7) (λ _. (refl, refl, refl))
-    (λ _. either P (eqb n 8) (λ _. (refl, refl, refl))
-    (λ _. either P (eqb n 9) (λ _. (refl, refl, refl))
-    (λ _. either P (eqb n 10) (λ _. (refl, refl, refl))
-    (λ _. either P (eqb n 11) (λ _. (refl, refl, refl))
-    (λ _. either P (ltb n 15) (λ _. (refl, refl, refl)) (λ _. (refl, refl, refl))))))))))
+    either P (eqb n 0) (λ _. as-it-was refl refl refl)
+    (λ _. either P (eqb n 1) (λ _. as-it-was refl refl refl)
+    (λ _. either P (leb n 6) (λ _. as-it-was refl refl refl)
+    (λ _. either P (eqb n 7) (λ _. as-it-was refl refl refl)
+    (λ _. either P (eqb n 8) (λ _. as-it-was refl refl refl)
+    (λ _. either P (eqb n 9) (λ _. as-it-was refl refl refl)
+    (λ _. either P (eqb n 10) (λ _. as-it-was refl refl refl)
+    (λ _. either P (eqb n 11) (λ _. as-it-was refl refl refl)
+    (λ _. either P (ltb n 15) (λ _. as-it-was refl refl refl) (λ _. as-it-was refl refl refl)))))))))
   where
     n : ℕ
     n = p % 16
 
     P : Got → Type 0
-    P g = (g .dma .channels ≡ d .channels) × (g .dma .serving ≡ d .serving) × (g .dma .channel ≡ d .channel)
+    P g = Unmoved d (g .dma)
 
 module _ (b : Board) (r m : List ℕ) where
   abbrev told : Outcome → List ℕ
@@ -137,32 +143,29 @@ module _ (b : Board) (r m : List ℕ) where
   abbrev Fine : Outcome → List ℕ → Type 0
   Fine o l = disturbs r (told o) ≡ false → Seen (b .dma) m (o .board .dma) l (told o)
 
-  abbrev Unmoved : Outcome → Type 0
-  Unmoved o =
-      (o .board .dma .channels ≡ b .dma .channels)
-      × (o .board .dma .serving ≡ b .dma .serving)
-      × (o .board .dma .channel ≡ b .dma .channel)
+  abbrev Stays : Outcome → Type 0
+  Stays o = Unmoved (b .dma) (o .board .dma)
 
-  timer-write : (p x : ℕ) → Unmoved (timerWritten b p x)
+  timer-write : (p x : ℕ) → Stays (timerWritten b p x)
   unfolding timerWritten rewired
-  timer-write p x = either Unmoved (eqb (writesOf (b .timer) p x .status) 0) (λ _. (refl, refl, refl)) (λ _. (refl, refl, refl))
+  timer-write p x = either Stays (eqb (writesOf (b .timer) p x .status) 0) (λ _. as-it-was refl refl refl) (λ _. as-it-was refl refl refl)
 
-  any-read : (p : ℕ) → Unmoved (readOf b p)
+  any-read : (p : ℕ) → Stays (readOf b p)
   unfolding readOf timerShown dmaShown
   any-read p =
-      either Unmoved (eqb (p / 16) 0) (λ _. (refl, refl, refl))
-      (λ _. either Unmoved (eqb (p / 16) 1)
-      (λ _. either Unmoved (eqb (readsOf (b .timer) p .status) 0) (λ _. (refl, refl, refl)) (λ _. (refl, refl, refl)))
-      (λ _. either Unmoved (eqb (DmaRegisters.readOf (b .dma) p .status) 0) (λ _. read-still (b .dma) p) (λ _. (refl, refl, refl))))
+      either Stays (eqb (p / 16) 0) (λ _. as-it-was refl refl refl)
+      (λ _. either Stays (eqb (p / 16) 1)
+      (λ _. either Stays (eqb (readsOf (b .timer) p .status) 0) (λ _. as-it-was refl refl refl) (λ _. as-it-was refl refl refl))
+      (λ _. either Stays (eqb (DmaRegisters.readOf (b .dma) p .status) 0) (λ _. read-still (b .dma) p) (λ _. as-it-was refl refl refl)))
 
   -- An operation other than a cycle that leaves channels and service as they are: its answer reports no unit.
   plain : (n : ℕ) (o : Outcome)
       → eqb (byte r 0) n ≡ true
       → eqb n 6 ≡ false
-      → Unmoved o
+      → Stays o
       → Fine o m
   unfolding answerOf
-  plain n o h k u c = same (u .0) (u .1) (u .2) refl (at (eqb (o .status) 0) (rw (eqb-true (byte r 0) n h) k))
+  plain n o h k u c = same (u .channels) (u .serving) (u .channel) refl (at (eqb (o .status) 0) (rw (eqb-true (byte r 0) n h) k))
     where
       at : (u : Bool) → eqb (byte r 0) 6 ≡ false → (u and eqb (byte r 0) 6 and eqb (getD (o .payload) 0 0) 2) ≡ false
       at true q = rw q
@@ -183,7 +186,7 @@ module _ (b : Board) (r m : List ℕ) where
   dma-write o p =
       either (λ (x : Outcome). Fine x m) (eqb (DmaRegisters.writeOf (b .dma) (byte r 1) (byte r 2) .status) 0)
       (λ _ c. absurd (true≢false (sym (ap₂ (λ (u v : Bool). eqb (byte r 0) 0 or (u and v)) o p ∙ at (eqb (byte r 0) 0)) ∙ c)))
-      (λ _. plain 1 (refused (DmaRegisters.writeOf (b .dma) (byte r 1) (byte r 2) .status) b) o refl (refl, refl, refl))
+      (λ _. plain 1 (refused (DmaRegisters.writeOf (b .dma) (byte r 1) (byte r 2) .status) b) o refl (as-it-was refl refl refl))
     where
       at : (u : Bool) → (u or true) ≡ true
       at true = refl
@@ -195,16 +198,16 @@ module _ (b : Board) (r m : List ℕ) where
   by x s (reset o) = held Reset (λ c. absurd (true≢false (sym (ap (λ (u : Bool). u or (eqb (byte r 0) 1 and dmaPort (byte r 1))) o) ∙ c)))
   by x s (write o p) =
       held (Write (byte r 1) (byte r 2))
-      (either (λ (y : Outcome). Fine y m) (eqb (byte r 1 / 16) 0) (λ _. plain 1 (icuTold b (icuWritten b (a0 (byte r 1)) (byte r 2))) o refl (refl, refl, refl))
+      (either (λ (y : Outcome). Fine y m) (eqb (byte r 1 / 16) 0) (λ _. plain 1 (icuTold b (icuWritten b (a0 (byte r 1)) (byte r 2))) o refl (as-it-was refl refl refl))
       (λ z. either (λ (y : Outcome). Fine y m) (eqb (byte r 1 / 16) 1)
       (λ _. plain 1 (timerWritten b (byte r 1) (byte r 2)) o refl (timer-write (byte r 1) (byte r 2)))
       (λ w. dma-write o (port-of (byte r 1) p z w))))
   by x s (read o p) = held (Read (byte r 1)) (plain 2 (readOf b (byte r 1)) o refl (any-read (byte r 1)))
-  by x s (intp o l) = held (Intp (byte r 2)) (plain 3 (executeOf b (Intp (byte r 2)) m) o refl (refl, refl, refl))
-  by x s (gates o l) = held (Gates (byte r 2)) (plain 3 (executeOf b (Gates (byte r 2)) m) o refl (refl, refl, refl))
-  by x s (requests o l) = held (Requests (byte r 2)) (plain 3 (executeOf b (Requests (byte r 2)) m) o refl (refl, refl, refl))
-  by x s (acknowledge o) = held Acknowledge (plain 4 (executeOf b Acknowledge m) o refl (refl, refl, refl))
-  by x s (advance o l) = held (Advance (pulseCount r)) (plain 5 (executeOf b (Advance (pulseCount r)) m) o refl (refl, refl, refl))
+  by x s (intp o l) = held (Intp (byte r 2)) (plain 3 (executeOf b (Intp (byte r 2)) m) o refl (as-it-was refl refl refl))
+  by x s (gates o l) = held (Gates (byte r 2)) (plain 3 (executeOf b (Gates (byte r 2)) m) o refl (as-it-was refl refl refl))
+  by x s (requests o l) = held (Requests (byte r 2)) (plain 3 (executeOf b (Requests (byte r 2)) m) o refl (as-it-was refl refl refl))
+  by x s (acknowledge o) = held Acknowledge (plain 4 (executeOf b Acknowledge m) o refl (as-it-was refl refl refl))
+  by x s (advance o l) = held (Advance (pulseCount r)) (plain 5 (executeOf b (Advance (pulseCount r)) m) o refl (as-it-was refl refl refl))
   by x s (cycle o) =
       held (Cycle (eqb (byte r 1) 1) (byte r 2))
       (λ c. rw (eqb-true (byte r 0) 6 o) (seen-cycle (b .dma) m (eqb (byte r 1) 1) (byte r 2) _ s))
