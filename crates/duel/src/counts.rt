@@ -1,109 +1,125 @@
 // What the tapes do: how often each status, operation and kind of DMA cycle came, counted by the second board's answers.
 use super::second;
 use super::show;
-use super::stretch;
 use super::stretch::Answers;
+use libc::STDOUT_FILENO;
 
-// The counts: statuses at 0 to 7, operations at 8 to 14 and any other at 15, kinds of DMA cycle at 16 to 19.
-const OPERATIONS: usize = 8;
-
-const KINDS: usize = 16;
-// Records, calls of the first board, of them those refused with 7, those that were not what they should be, differences, and calls on a board
-// with a field out of its range.
-pub const RECORDS: usize = 20;
-
-pub const CALLS: usize = 21;
-
-pub const REFUSED: usize = 22;
-
-pub const WRONG: usize = 23;
-
-pub const DIFFERENCES: usize = 24;
-
-pub const SPOILT: usize = 25;
-
-pub fn add(tally: &mut [u64; 32], at: usize) {
-    let i = at % 32;
-    tally[i] = tally[i] % 4294967296 + 1;
+// The counts, in the order in which they are printed: records; calls of the first board, of them those refused with 7, and of these those on a board
+// with a field out of its range; statuses 0 to 6; operations 0 to 6, and any other; kinds of DMA cycle.
+pub struct Tally {
+    pub n: [u64; 32],
 }
 
-pub fn add_if(tally: &mut [u64; 32], at: usize, happened: bool) {
-    if happened {
-        add(tally, at);
+pub const RECORDS: usize = 0;
+
+pub const CALLS: usize = 1;
+
+pub const REFUSED: usize = 2;
+
+pub const SPOILT: usize = 3;
+
+const STATUSES: usize = 4;
+
+const OPERATIONS: usize = 11;
+
+const KINDS: usize = 19;
+// Not printed here: differences, calls that were not what they should be, and statuses that no record has.
+pub const DIFFERENCES: usize = 23;
+
+pub const WRONG: usize = 24;
+
+const STRANGE: usize = 25;
+
+pub fn zero() -> Tally {
+    Tally { n: [0; 32] }
+}
+
+pub fn at(tally: Tally, place: usize) -> u64 {
+    let i = place % 32;
+    tally.n[i]
+}
+
+pub fn add(tally: Tally, place: usize, n: u64) -> Tally {
+    let mut next = tally;
+    let i = place % 32;
+    next.n[i] = tally.n[i] % 4294967296 + n % 4294967296;
+    next
+}
+
+// The tally with a count begun anew.
+pub fn cleared(tally: Tally, place: usize) -> Tally {
+    let mut next = tally;
+    let i = place % 32;
+    next.n[i] = 0;
+    next
+}
+
+fn place_of_status(status: u8) -> usize {
+    if status > 6 {
+        return STRANGE;
     }
+    STATUSES + second::index(second::wide(status)) % 7
 }
 
-fn count_operation(tally: &mut [u64; 32], op: u8) {
+fn place_of_operation(op: u8) -> usize {
     if op > 6 {
-        add(tally, 15);
-        return;
+        return OPERATIONS + 7;
     }
-    add(tally, OPERATIONS + second::index(second::wide(op)) % 8);
+    OPERATIONS + second::index(second::wide(op)) % 7
 }
 
-fn count_answer(tally: &mut [u64; 32], answer: &[u8; 16]) {
-    let status = second::index(second::wide(answer[0])) % 8;
-    add(tally, RECORDS);
-    add(tally, status);
-    count_operation(tally, answer[1]);
-    if status == 0 && answer[1] == 6 {
-        let kind = second::index(second::wide(answer[4])) % 4;
-        add(tally, KINDS + kind);
+fn count_answer(tally: Tally, status: u8, op: u8, kind: u8) -> Tally {
+    let next = add(
+        add(add(tally, RECORDS, 1), place_of_status(status), 1),
+        place_of_operation(op),
+        1,
+    );
+    if (status == 0) & (op == 6) {
+        return add(next, KINDS + second::index(second::wide(kind)) % 4, 1);
     }
+    next
 }
 
-// The answers of n records.
-pub fn count_answers(tally: &mut [u64; 32], answers: &Answers, n: usize) {
+// The answers of 64 records.
+pub fn count_answers(tally: Tally, answers: &Answers) -> Tally {
+    let mut next = tally;
     let mut i: usize = 0;
-    while i < n {
-        let answer = stretch::answer_at(answers, i);
-        count_answer(tally, &answer);
+    while i < 64 {
+        let place = i * 16;
+        next = count_answer(next, answers[place], answers[place + 1], answers[place + 4]);
         i += 1;
     }
+    next
 }
 
-fn print_count(name: &[u8], tally: &[u64; 32], at: usize) {
-    let i = at % 32;
-    show::print(name);
-    show::print_number(tally[i]);
-    show::print(b"\n");
-}
-
-fn print_statuses(tally: &[u64; 32]) {
-    print_count(b"status 0: ", tally, 0);
-    print_count(b"status 1: ", tally, 1);
-    print_count(b"status 2: ", tally, 2);
-    print_count(b"status 3: ", tally, 3);
-    print_count(b"status 4: ", tally, 4);
-    print_count(b"status 5: ", tally, 5);
-    print_count(b"status 6: ", tally, 6);
-}
-
-fn print_operations(tally: &[u64; 32]) {
-    print_count(b"operation 0, reset: ", tally, 8);
-    print_count(b"operation 1, write: ", tally, 9);
-    print_count(b"operation 2, read: ", tally, 10);
-    print_count(b"operation 3, lines: ", tally, 11);
-    print_count(b"operation 4, acknowledge: ", tally, 12);
-    print_count(b"operation 5, advance: ", tally, 13);
-    print_count(b"operation 6, DMA cycle: ", tally, 14);
-    print_count(b"other operations: ", tally, 15);
-}
-
-fn print_kinds(tally: &[u64; 32]) {
-    print_count(b"cycles, nothing: ", tally, 16);
-    print_count(b"cycles, granted: ", tally, 17);
-    print_count(b"cycles, moved: ", tally, 18);
-    print_count(b"cycles, released: ", tally, 19);
-}
-
-pub fn print_all(tally: &[u64; 32]) {
-    print_count(b"records: ", tally, RECORDS);
-    print_count(b"calls: ", tally, CALLS);
-    print_count(b"calls refused with 7: ", tally, REFUSED);
-    print_count(b"of them for a field out of range: ", tally, SPOILT);
-    print_statuses(tally);
-    print_operations(tally);
-    print_kinds(tally);
-    print_count(b"differences: ", tally, DIFFERENCES);
+pub fn print_all(tally: Tally) {
+    let numbers = tally.n;
+    show::fill(
+        STDOUT_FILENO,
+        b"records: %
+calls: %
+calls refused with 7: %
+of them for a field out of range: %
+status 0: %
+status 1: %
+status 2: %
+status 3: %
+status 4: %
+status 5: %
+status 6: %
+operation 0, reset: %
+operation 1, write: %
+operation 2, read: %
+operation 3, lines: %
+operation 4, acknowledge: %
+operation 5, advance: %
+operation 6, DMA cycle: %
+other operations: %
+cycles, nothing: %
+cycles, granted: %
+cycles, moved: %
+cycles, released: %
+",
+        numbers,
+    );
 }

@@ -4,6 +4,7 @@
 // range. Both calls have to be refused with 7 and to change nothing. One lump in eight follows an empty call, and the buffer has
 // bytes to spare now and then.
 use super::counts;
+use super::counts::Tally;
 use super::same;
 use super::spoilt;
 use super::stretch;
@@ -15,11 +16,31 @@ use board::Board;
 use intake::Fed;
 ghost use Prim.Native.Nat.{_<_, _≤_};
 
-// Where a run stands: the board, the draw, and how many records have answers.
+// Where a run stands: the board, the draw, how many records have answers, and the counts.
 pub struct Run {
     pub board: Board,
     pub seed: u32,
     pub done: usize,
+    pub tally: Tally,
+}
+
+// A run from reset.
+pub fn from_reset(seed: u32, tally: Tally) -> Run {
+    Run {
+        board: Board::reset(),
+        seed: seed,
+        done: 0,
+        tally: tally,
+    }
+}
+
+// The parts of a call: of the tape `at` to `end`, of the memory its first `length` bytes, of the answers `from` to `to`.
+struct Lump {
+    at: usize,
+    end: usize,
+    length: usize,
+    from: usize,
+    to: usize,
 }
 
 // A status that no call has.
@@ -31,19 +52,13 @@ fn no_call(board: Board) -> Fed {
     }
 }
 
-// A call on parts: of the tape `at` to `end`, of the memory its first `length` bytes, of the answers `from` to `to`. Parts that aren't there make
-// no call.
-fn call_over(
-    board: Board,
-    tape: &[u8],
-    at: usize,
-    end: usize,
-    memory: &mut [u8],
-    length: usize,
-    answers: &mut [u8],
-    from: usize,
-    to: usize,
-) -> Fed {
+// Parts that aren't there make no call.
+fn call_over(board: Board, tape: &[u8], memory: &mut [u8], answers: &mut [u8], lump: Lump) -> Fed {
+    let at = lump.at;
+    let end = lump.end;
+    let length = lump.length;
+    let from = lump.from;
+    let to = lump.to;
     if tape.len() < end {
         return no_call(board);
     }
@@ -68,18 +83,8 @@ fn call_over(
 }
 
 // The arrays as slices.
-fn call(
-    board: Board,
-    tape: &Tape,
-    at: usize,
-    end: usize,
-    memory: &mut Memory,
-    length: usize,
-    answers: &mut Answers,
-    from: usize,
-    to: usize,
-) -> Fed {
-    call_over(board, tape, at, end, memory, length, answers, from, to)
+fn call(board: Board, tape: &Tape, memory: &mut Memory, answers: &mut Answers, lump: Lump) -> Fed {
+    call_over(board, tape, memory, answers, lump)
 }
 
 // The records that a lump completes.
@@ -92,14 +97,6 @@ fn completes(board: Board, at: usize, end: usize) -> usize
     (board.kept.length as usize % 8 + (end - at) % 505) / 8
 }
 
-fn same_answers(a: &Answers, b: &Answers) -> bool {
-    stretch::first_differing(a, b) == stretch::ROOM
-}
-
-fn same_memory(a: &Memory, b: &Memory) -> bool {
-    stretch::first_apart(a, b) == 4096
-}
-
 // Room to spare: mostly none.
 fn spare(seed: u32) -> usize
     ensures { λ r. ⌜ r < 64 ⌝ }
@@ -110,172 +107,162 @@ fn spare(seed: u32) -> usize
     0
 }
 
+// A lump whose answers follow those that are there, with `room` bytes for them.
+fn placed(done: usize, at: usize, end: usize, length: usize, room: usize) -> Lump {
+    let from = done % 65 * 16;
+    Lump {
+        at: at,
+        end: end,
+        length: length,
+        from: from,
+        to: from + room % 2048,
+    }
+}
+
+fn after(run: Run, board: Board, k: usize, tally: Tally) -> Run {
+    Run {
+        board: board,
+        seed: run.seed,
+        done: run.done % 65 + k % 65,
+        tally: tally,
+    }
+}
+
 // The lump from `at` to `end`, with room for its answers.
 fn feed_whole(
     run: Run,
     tape: &Tape,
+    memory: &mut Memory,
+    answers: &mut Answers,
     at: usize,
     end: usize,
-    memory: &mut Memory,
     length: usize,
-    answers: &mut Answers,
-    tally: &mut [u64; 32],
 ) -> Run {
     let board = run.board;
     let k = completes(board, at, end);
-    let done = run.done % 65;
-    let from = done * 16;
-    let fed = call(
-        board,
-        tape,
-        at,
-        end,
-        memory,
-        length,
-        answers,
-        from,
-        from + k * 16 + spare(run.seed),
-    );
+    let lump = placed(run.done, at, end, length, k * 16 + spare(run.seed));
+    let fed = call(board, tape, memory, answers, lump);
     let next = fed.board;
-    counts::add(tally, counts::CALLS);
-    counts::add_if(tally, counts::WRONG, (fed.status != 0) | (fed.records != k));
-    Run {
-        board: next,
-        seed: run.seed,
-        done: done + k,
-    }
+    let wrong = (fed.status != 0) | (fed.records != k);
+    after(run, next, k, called(run.tally, false, wrong))
 }
 
-// A call that has to be refused with 7 and to change nothing. Gives the board after it.
+// A run with other counts.
+pub fn counting(run: Run, tally: Tally) -> Run {
+    after(run, run.board, 0, tally)
+}
+
+// A call is counted.
+fn called(tally: Tally, refused: bool, wrong: bool) -> Tally {
+    let once = counts::add(tally, counts::CALLS, 1);
+    counts::add(
+        counts::add(once, counts::REFUSED, stretch::one_if(refused)),
+        counts::WRONG,
+        stretch::one_if(wrong),
+    )
+}
+
+fn same_answers(a: &Answers, b: &Answers) -> bool {
+    stretch::next_differing(a, b, 0) == stretch::ROOM
+}
+
+fn same_memory(a: &Memory, b: &Memory) -> bool {
+    stretch::first_apart(a, b) == 4096
+}
+
+// A call on a board that has to be refused with 7 and to change nothing.
 fn refuse(
+    run: Run,
     board: Board,
     tape: &Tape,
-    at: usize,
-    end: usize,
     memory: &mut Memory,
-    length: usize,
     answers: &mut Answers,
-    from: usize,
-    to: usize,
-    tally: &mut [u64; 32],
-) -> Board {
+    lump: Lump,
+) -> Run {
     let mut memory_before = [0u8; 4096];
     let mut answers_before = [0u8; 1088];
     stretch::copy_memory(memory, &mut memory_before);
     stretch::copy_answers(answers, &mut answers_before);
-    let fed = call(board, tape, at, end, memory, length, answers, from, to);
+    let fed = call(board, tape, memory, answers, lump);
     let next = fed.board;
     let unchanged = same::same_board(board, next)
         & same_memory(&memory_before, memory)
         & same_answers(&answers_before, answers);
     let whole = (fed.status == 7) & (fed.records == 0) & unchanged;
-    counts::add(tally, counts::CALLS);
-    counts::add_if(tally, counts::REFUSED, fed.status == 7);
-    counts::add_if(tally, counts::WRONG, !whole);
-    next
+    after(run, next, 0, called(run.tally, fed.status == 7, !whole))
 }
 
 // The same lump, with a buffer one byte too short, if it completes a record and the draw says so.
 fn feed_short(
     run: Run,
     tape: &Tape,
+    memory: &mut Memory,
+    answers: &mut Answers,
     at: usize,
     end: usize,
-    memory: &mut Memory,
     length: usize,
-    answers: &mut Answers,
-    tally: &mut [u64; 32],
 ) -> Run {
     let board = run.board;
     let k = completes(board, at, end);
-    if k == 0 || run.seed / 8 % 4 != 0 {
+    if k == 0 {
         return run;
     }
-    let done = run.done % 65;
-    let from = done * 16;
-    let next = refuse(
-        board,
-        tape,
-        at,
-        end,
-        memory,
-        length,
-        answers,
-        from,
-        from + k * 16 - 1,
-        tally,
-    );
-    Run {
-        board: next,
-        seed: run.seed,
-        done: done,
+    if run.seed / 8 % 4 != 0 {
+        return run;
     }
+    let lump = placed(run.done, at, end, length, k * 16 - 1);
+    refuse(run, board, tape, memory, answers, lump)
 }
 
 // The same lump, with a field of the board out of its range, if the draw says so. The run goes on with the board as it was.
 fn feed_spoilt(
     run: Run,
     tape: &Tape,
+    memory: &mut Memory,
+    answers: &mut Answers,
     at: usize,
     end: usize,
-    memory: &mut Memory,
     length: usize,
-    answers: &mut Answers,
-    tally: &mut [u64; 32],
 ) -> Run {
-    let board = run.board;
-    let k = completes(board, at, end);
     if run.seed / 256 % 16 != 0 {
         return run;
     }
-    let from = run.done % 65 * 16;
+    let board = run.board;
+    let k = completes(board, at, end);
+    let lump = placed(run.done, at, end, length, k * 16);
     let bad = spoilt::spoil(board, run.seed / 4096);
-    counts::add(tally, counts::SPOILT);
-    refuse(
-        bad,
-        tape,
-        at,
-        end,
-        memory,
-        length,
-        answers,
-        from,
-        from + k * 16,
-        tally,
-    );
-    run
+    let next = refuse(run, bad, tape, memory, answers, lump);
+    after(run, board, 0, counts::add(next.tally, counts::SPOILT, 1))
 }
 
 // An empty call before the lump, if the draw says so.
 fn feed_nothing(
     run: Run,
     tape: &Tape,
-    at: usize,
     memory: &mut Memory,
-    length: usize,
     answers: &mut Answers,
-    tally: &mut [u64; 32],
+    at: usize,
+    length: usize,
 ) -> Run {
     if run.seed % 8 != 0 {
         return run;
     }
-    feed_whole(run, tape, at, at, memory, length, answers, tally)
+    feed_whole(run, tape, memory, answers, at, at, length)
 }
 
 fn feed_lump(
     run: Run,
     tape: &Tape,
+    memory: &mut Memory,
+    answers: &mut Answers,
     at: usize,
     end: usize,
-    memory: &mut Memory,
     length: usize,
-    answers: &mut Answers,
-    tally: &mut [u64; 32],
 ) -> Run {
-    let a = feed_nothing(run, tape, at, memory, length, answers, tally);
-    let b = feed_short(a, tape, at, end, memory, length, answers, tally);
-    let c = feed_spoilt(b, tape, at, end, memory, length, answers, tally);
-    feed_whole(c, tape, at, end, memory, length, answers, tally)
+    let a = feed_nothing(run, tape, memory, answers, at, length);
+    let b = feed_short(a, tape, memory, answers, at, end, length);
+    let c = feed_spoilt(b, tape, memory, answers, at, end, length);
+    feed_whole(c, tape, memory, answers, at, end, length)
 }
 
 // The length of the next lump, of which `left` bytes are left.
@@ -298,20 +285,15 @@ pub fn run_first(
     memory: &mut Memory,
     length: usize,
     answers: &mut Answers,
-    tally: &mut [u64; 32],
 ) -> Run {
     let total = n % 65 * 8;
-    let board = start.board;
-    let mut run = Run {
-        board: board,
-        seed: start.seed,
-        done: 0,
-    };
+    let mut run = start;
+    run.done = 0;
     let mut at: usize = 0;
     while at < total {
         run.seed = tapes::turn(run.seed);
         let end = at + drawn(run.seed, total - at);
-        run = feed_lump(run, tape, at, end, memory, length, answers, tally);
+        run = feed_lump(run, tape, memory, answers, at, end, length);
         at = end;
     }
     run

@@ -1,7 +1,8 @@
-// Holds the board of this repository, the first, and an independent second one against the documents' charts, and against each other on long tapes.
-mod charts;
+// duel CHARTS..: holds the board of this repository, the first, and an independent second one against the charts of the files that it is given, and
+// against each other on long tapes.
 mod counts;
 mod first;
+mod notation;
 mod rounds;
 mod run;
 mod same;
@@ -12,8 +13,16 @@ mod stretch;
 mod tapes;
 
 fn main() {
-    let mut tally = [0u64; 4];
-    charts::all(&mut tally);
-    run::total(&tally);
-    rounds::duel(64);
+    let words = os::arg_count();
+    if words < 2 {
+        io::write_all(
+            libc::STDERR_FILENO,
+            b"usage: duel CHARTS..    runs files of charts on both boards, and then the duel: ./run duel charts/*.chart\n",
+        );
+        return;
+    }
+    let totals = run::take_arguments(words);
+    run::print_totals(totals);
+    let tally = rounds::duel(64);
+    run::print_last(totals, counts::at(tally, counts::DIFFERENCES));
 }

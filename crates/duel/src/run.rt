@@ -1,217 +1,151 @@
-// Runs charts: tapes with their answers, typed in as text. Each chart runs on both boards, from reset, over 256 zero bytes of memory: on the second
-// record by record, on the first in lumps.
-//
-// A line that begins with / is a remark. One that begins with # opens a chart and names it. Any other is a record, a colon, its answer and a
-// semicolon, all numbers in hex:
-//     z            reset
-//     w 13 10      write, port and data
-//     r 10         read, port
-//     l 1 7        lines, group and levels
-//     k            interrupt acknowledge
-//     a 2710       advance, pulses
-//     c 1 5A       DMA cycle, END and the byte from the device
-//     x 7 0 0 1    any record: its bytes from byte 0 on
-// The answer is status, data, levels, and payload from byte 4 on. Numbers left out at the end are zero.
+// Runs the charts of files: tapes with their answers, as text. Each chart runs on both boards, from reset, over 256 zero bytes of memory: on the second
+// record by record, on the first in lumps. Files are read in lumps too, so they may have any length.
 use super::counts;
+use super::counts::Tally;
 use super::first;
-use super::first::Run;
+use super::notation;
+use super::notation::Line;
 use super::second;
 use super::show;
 use super::stretch;
 use super::stretch::Answers;
 use super::stretch::Memory;
 use super::stretch::Tape;
-use board::Board;
-ghost use Prim.Native.Nat.{_<_};
+use libc::STDERR_FILENO;
 
-// The reader's state. Of a line: the number so far, whether it has a digit, its place in its half of the line, the half (0 record, 1 answer), and
-// whether the record is an advance.
-const SO_FAR: usize = 0;
+// Of all files: charts, those that agreed in every record, their records, bad lines, and files that could not be read or have no chart.
+pub struct Totals {
+    pub charts: u64,
+    pub agreed: u64,
+    pub records: u64,
+    pub bad: u64,
+    pub unread: u64,
+}
 
-const DIGITS: usize = 1;
+// A chart under way: its name, its records with the answers typed in, and whether all its lines read well.
+struct Chart {
+    open: bool,
+    well: bool,
+    name: [u8; 64],
+    length: usize,
+    records: usize,
+    tape: Tape,
+    typed: Answers,
+}
 
-const FIELD: usize = 2;
+// A file under way: its line, with its number, and what is wrong with the line that has just ended.
+struct Reader {
+    totals: Totals,
+    chart: Chart,
+    line: Line,
+    lines: u64,
+    fault: u32,
+    // there may be more to read
+    more: bool,
+}
 
-const HALF: usize = 3;
-
-const PULSES: usize = 4;
-// Of the text: 0 in a line, 1 in a chart's name, 2 in a remark; and whether a chart is open.
-const TEXT: usize = 5;
-
-const OPEN: usize = 6;
-
-// What a byte of text is: 0 to 15 a digit, 16 a blank, 17 a colon, 18 a semicolon, 20 to 26 the letter of an operation, 27 that of a raw record.
-fn meaning(b: u8) -> u32
-    ensures { λ r. ⌜ r < 28 ⌝ }
-{
-    if b'0' <= b && b <= b'9' {
-        return second::wide(b - b'0') % 10;
-    }
-    if b'A' <= b && b <= b'F' {
-        return second::wide(b - b'A') % 6 + 10;
-    }
-    match b {
-        b':' => 17,
-        b';' => 18,
-        b'z' => 20,
-        b'w' => 21,
-        b'r' => 22,
-        b'l' => 23,
-        b'k' => 24,
-        b'a' => 25,
-        b'c' => 26,
-        b'x' => 27,
-        _ => 16,
+pub fn no_totals() -> Totals {
+    Totals {
+        charts: 0,
+        agreed: 0,
+        records: 0,
+        bad: 0,
+        unread: 0,
     }
 }
 
-fn low_byte(x: u32) -> u8 {
-    (x % 256) as u8
-}
-
-// A line begins.
-fn begin(p: &mut [u32; 8], record: &mut [u8; 8], expect: &mut [u8; 16], letter: u32) {
-    *record = [0; 8];
-    *expect = [0; 16];
-    p[SO_FAR] = 0;
-    p[DIGITS] = 0;
-    p[FIELD] = 0;
-    p[HALF] = 0;
-    p[PULSES] = 0;
-    if letter == 27 {
-        return;
-    }
-    p[FIELD] = 1;
-    record[0] = low_byte(letter % 32 + 256 - 20);
-    if letter == 25 {
-        p[PULSES] = 1;
+fn no_chart() -> Chart {
+    Chart {
+        open: false,
+        well: true,
+        name: [0; 64],
+        length: 0,
+        records: 0,
+        tape: [0; 512],
+        typed: [stretch::UNWRITTEN; 1088],
     }
 }
 
-fn digit(p: &mut [u32; 8], d: u32) {
-    p[SO_FAR] = p[SO_FAR] % 268435456 * 16 + d % 16;
-    p[DIGITS] = 1;
-}
-
-fn put_pulses(record: &mut [u8; 8], n: u32) {
-    record[4] = low_byte(n);
-    record[5] = low_byte(n / 256);
-    record[6] = low_byte(n / 65536);
-    record[7] = low_byte(n / 16777216);
-}
-
-// A number of the record's half.
-fn asked(p: &[u32; 8], record: &mut [u8; 8], n: u32) {
-    if p[PULSES] == 1 {
-        put_pulses(record, n);
-        return;
+fn start(totals: Totals) -> Reader {
+    Reader {
+        totals: totals,
+        chart: no_chart(),
+        line: notation::blank(),
+        lines: 0,
+        fault: notation::NOTHING,
+        more: true,
     }
-    let at = second::index(p[FIELD]) % 8;
-    record[at] = low_byte(n);
 }
 
-// A number of the answer's half. Byte 1 is the operation as read.
-fn answered(p: &[u32; 8], expect: &mut [u8; 16], n: u32) {
-    let field = second::index(p[FIELD]) % 15;
-    if field == 0 {
-        expect[0] = low_byte(n);
-        return;
+// One more; no text is so long that it stays.
+fn more(n: u64) -> u64 {
+    if n < u64::MAX {
+        return n + 1;
     }
-    expect[field + 1] = low_byte(n);
+    n
 }
 
-fn number_ends(p: &mut [u32; 8], record: &mut [u8; 8], expect: &mut [u8; 16]) {
-    let n = p[SO_FAR];
-    if p[DIGITS] == 0 {
-        return;
-    }
-    if p[HALF] == 0 {
-        asked(p, record, n);
-    } else {
-        answered(p, expect, n);
-    }
-    p[SO_FAR] = 0;
-    p[DIGITS] = 0;
-    p[FIELD] = p[FIELD] % 16 + 1;
+fn say(words: &[u8]) {
+    io::write_all(STDERR_FILENO, words);
 }
 
-// One byte of a line. True where the line is complete.
-fn take_byte(p: &mut [u32; 8], record: &mut [u8; 8], expect: &mut [u8; 16], b: u8) -> bool {
-    let m = meaning(b);
-    if m < 16 {
-        digit(p, m);
-        return false;
-    }
-    if m > 19 {
-        begin(p, record, expect, m);
-        return false;
-    }
-    number_ends(p, record, expect);
-    if m == 17 {
-        p[HALF] = 1;
-        p[FIELD] = 0;
-        expect[1] = record[0];
-    }
-    m == 18
+// The rows are numbered as the faults of `notation` are.
+fn complain(path: &[u8], line: u64, fault: u32) {
+    say(path);
+    say(b":");
+    io::print_decimal(STDERR_FILENO, line);
+    say(b": ");
+    show::write_row(
+        STDERR_FILENO,
+        b"
+a line begins with z, w, r, l, k, a, c, x, # or /
+neither a hex digit (0-9, A-F) nor a blank, a colon or a semicolon
+the colon is missing
+the semicolon is missing
+there is more after the semicolon
+too many numbers
+too few numbers
+a number is over FF, or the pulses are over FFFFFFFF
+a chart has to have a name
+a name has 64 letters at most
+a record before the first chart's name
+a chart has 64 records at most
+the file ends inside this line",
+        fault,
+    );
+    say(b"\n");
 }
 
-// The tally of charts: how many there were, how many agreed in every record, their records, and the records of the open chart.
-const CHARTS: usize = 0;
-
-const AGREED: usize = 1;
-
-const RECORDS: usize = 2;
-
-const OWN: usize = 3;
-
-fn add(tally: &mut [u64; 4], at: usize) {
-    let i = at % 4;
-    tally[i] = tally[i] % 4294967296 + 1;
-}
-
-// A chart opens.
-fn open(p: &mut [u32; 8], typed: &mut Answers, tally: &mut [u64; 4]) {
-    *p = [0; 8];
-    *typed = [stretch::UNWRITTEN; 1088];
-    p[TEXT] = 1;
-    p[OPEN] = 1;
-    add(tally, CHARTS);
-    tally[OWN] = 0;
-    show::print(b"chart ");
-    show::print_number(tally[CHARTS]);
-}
-
-fn report(board: &[u8], record: usize, typed: &Answers, got: &Answers) {
-    let a = stretch::answer_at(typed, record);
-    let b = stretch::answer_at(got, record);
-    show::print(b"the ");
+fn report(board: &[u8], i: usize, typed: &Answers, got: &Answers) {
     show::print(board);
-    show::print(b" board differs at record ");
-    show::print_number(record as u64 % 4294967296 + 1);
-    show::print(b"\n  typed in");
-    show::print_answer(&a);
-    show::print(b"\n  found   ");
-    show::print_answer(&b);
-    show::print(b"\n");
+    show::print_with(
+        b" board differs at record %\n",
+        (i % 68) as u64 + 1,
+        0,
+        0,
+        0,
+    );
+    show::print_answer(b"  typed in", stretch::answer_at(typed, i));
+    show::print_answer(b"  found   ", stretch::answer_at(got, i));
 }
 
 // A board's answers against those typed in.
 fn agrees(board: &[u8], typed: &Answers, got: &Answers) -> bool {
-    let record = stretch::first_differing(typed, got);
-    if record >= stretch::ROOM {
+    let i = stretch::next_differing(typed, got, 0);
+    if i >= stretch::ROOM {
         return true;
     }
-    report(board, record, typed, got);
+    report(board, i, typed, got);
     false
 }
 
 // The memories of the two boards, which a chart's answers show only in part, and the calls of the first.
-fn agree_otherwise(a: &Memory, b: &Memory, calls: &[u64; 32]) -> bool {
+fn agree_otherwise(a: &Memory, b: &Memory, calls: Tally) -> bool {
     if stretch::first_apart(a, b) < 4096 {
         show::print(b"the memories of the two boards differ\n");
         return false;
     }
-    if calls[counts::WRONG] != 0 {
+    if counts::at(calls, counts::WRONG) != 0 {
         show::print(b"a call of the first board was not taken whole or refused whole\n");
         return false;
     }
@@ -220,149 +154,327 @@ fn agree_otherwise(a: &Memory, b: &Memory, calls: &[u64; 32]) -> bool {
 
 // A chart of n records on both boards. Its number draws the lumps.
 fn both_agree(tape: &Tape, typed: &Answers, n: usize, number: u32) -> bool {
-    let mut s = second::second_reset();
     let mut first_memory = [0u8; 4096];
     let mut second_memory = [0u8; 4096];
     let mut first_answers = [stretch::UNWRITTEN; 1088];
     let mut second_answers = [stretch::UNWRITTEN; 1088];
-    let mut calls = [0u64; 32];
-    let run = Run {
-        board: Board::reset(),
-        seed: number,
-        done: 0,
-    };
     stretch::run_second(
-        &mut s,
+        second::second_reset(),
         tape,
         n,
         &mut second_memory,
         256,
         &mut second_answers,
     );
-    first::run_first(
-        run,
+    let run = first::run_first(
+        first::from_reset(number, counts::zero()),
         tape,
         n,
         &mut first_memory,
         256,
         &mut first_answers,
-        &mut calls,
     );
-    let second = agrees(b"second", typed, &second_answers);
-    let first = agrees(b"first", typed, &first_answers);
-    second && first && agree_otherwise(&first_memory, &second_memory, &calls)
+    let second = agrees(b"the second", typed, &second_answers);
+    let first = agrees(b"the first", typed, &first_answers);
+    second & first & agree_otherwise(&first_memory, &second_memory, run.tally)
+}
+
+fn print_name(name: &[u8; 64], length: usize) {
+    show::print_part(name, length);
+}
+
+// True where the chart agrees.
+fn run_chart(chart: Chart, number: u64) -> bool {
+    let n = chart.records;
+    if !chart.well {
+        show::print(b"not run, a line of it does not read\n");
+        return false;
+    }
+    if n == 0 {
+        show::print(b"not run, it has no record\n");
+        return false;
+    }
+    let tape = chart.tape;
+    let typed = chart.typed;
+    if both_agree(&tape, &typed, n, (number % 65536) as u32 + 1) {
+        show::print_with(b"ok, % records\n", n as u64, 0, 0, 0);
+        return true;
+    }
+    false
 }
 
 // The open chart, if there is one, is over: it is run.
-fn close(p: &mut [u32; 8], tape: &Tape, typed: &Answers, tally: &mut [u64; 4]) {
-    if p[OPEN] == 0 {
-        return;
+fn close(chart: Chart, totals: Totals) -> Totals {
+    if !chart.open {
+        return totals;
     }
-    p[OPEN] = 0;
-    let n = tally[OWN];
-    if n > 64 {
-        show::print(b"not run, ");
-        show::print_number(n);
-        show::print(b" records are too many\n");
-        return;
+    let name = chart.name;
+    show::print_with(b"chart % ", totals.charts, 0, 0, 0);
+    print_name(&name, chart.length);
+    show::print(b": ");
+    if run_chart(chart, totals.charts) {
+        let mut next = totals;
+        next.agreed = more(totals.agreed);
+        return next;
     }
-    if both_agree(tape, typed, n as usize, (tally[CHARTS] % 65536) as u32 + 1) {
-        add(tally, AGREED);
-        show::print(b"ok, ");
-        show::print_number(n);
-        show::print(b" records\n");
+    totals
+}
+
+// A chart's name: the chart before it is over, and it opens.
+fn open(reader: Reader) -> Reader {
+    let mut totals = close(reader.chart, reader.totals);
+    totals.charts = more(totals.charts);
+    let line = reader.line;
+    let name = line.name;
+    let mut chart = no_chart();
+    chart.open = true;
+    chart.name = name;
+    chart.length = line.length;
+    let mut next = reader;
+    next.totals = totals;
+    next.chart = chart;
+    next
+}
+
+// A record joins its chart.
+fn joined(chart: Chart, line: Line) -> Chart {
+    let record = line.record;
+    let answer = line.answer;
+    let n = chart.records % 64;
+    let mut tape = chart.tape;
+    let mut typed = chart.typed;
+    stretch::put_record(&mut tape, n, record);
+    stretch::put_answer(&mut typed, n, answer);
+    let mut next = chart;
+    next.records = n + 1;
+    next.tape = tape;
+    next.typed = typed;
+    next
+}
+
+fn join(reader: Reader) -> Reader {
+    let mut totals = reader.totals;
+    totals.records = more(totals.records);
+    let mut next = reader;
+    next.totals = totals;
+    next.chart = joined(reader.chart, reader.line);
+    next
+}
+
+// What is wrong with the line that has ended: in itself, or where it stands.
+fn fault_of(chart: Chart, line: Line) -> u32 {
+    let fault = notation::fault_of(line);
+    if (fault != notation::NOTHING) | (line.part != notation::WHOLE) {
+        return fault;
+    }
+    if chart.open {
+        return second::choose(chart.records >= 64, notation::FULL, notation::NOTHING);
+    }
+    notation::HOMELESS
+}
+
+// A line that reads well.
+fn obey(reader: Reader) -> Reader {
+    let part = reader.line.part;
+    match part {
+        notation::NAME => open(reader),
+        notation::WHOLE => join(reader),
+        _ => reader,
     }
 }
 
-// A byte of a name is printed, one of a remark is passed over, up to the line's end.
-fn pass_byte(p: &mut [u32; 8], b: u8) {
-    let name = p[TEXT] == 1;
+// A bad line is counted, and its chart is not run.
+fn with_fault(reader: Reader, fault: u32) -> Reader {
+    let mut totals = reader.totals;
+    totals.bad = more(totals.bad);
+    let mut chart = reader.chart;
+    chart.well = false;
+    let mut next = reader;
+    next.totals = totals;
+    next.chart = chart;
+    next.fault = fault;
+    next
+}
+
+// A line feed: the line is whole.
+fn end_line(reader: Reader) -> Reader {
+    let fault = fault_of(reader.chart, reader.line);
+    if fault == notation::NOTHING {
+        return fresh_line(obey(reader));
+    }
+    fresh_line(with_fault(reader, fault))
+}
+
+fn fresh_line(reader: Reader) -> Reader {
+    let mut next = reader;
+    next.line = notation::blank();
+    next.lines = more(reader.lines);
+    next
+}
+
+fn take_byte(reader: Reader, b: u8) -> Reader {
     if b == b'\n' {
-        p[TEXT] = 0;
-        if name {
-            show::print(b": ");
-        }
-        return;
+        return end_line(reader);
     }
-    if name {
-        show::print_letter(b);
-    }
+    let mut next = reader;
+    next.line = notation::take(reader.line, b);
+    next
 }
 
-// A complete line joins the chart.
-fn join(
-    tape: &mut Tape,
-    typed: &mut Answers,
-    record: &[u8; 8],
-    expect: &[u8; 16],
-    tally: &mut [u64; 4],
-) {
-    let n = tally[OWN];
-    add(tally, RECORDS);
-    add(tally, OWN);
-    if n < 64 {
-        stretch::put_record(tape, n as usize, record);
-        stretch::put_answer(typed, n as usize, expect);
+// Ten bad lines are told, and then no more.
+fn told(path: &[u8], reader: Reader) -> Reader {
+    if reader.fault == notation::NOTHING {
+        return reader;
     }
+    if reader.totals.bad < 11 {
+        complain(path, reader.lines, reader.fault);
+    }
+    let mut next = reader;
+    next.fault = notation::NOTHING;
+    next
 }
 
-// One byte of text.
-fn read_byte(
-    p: &mut [u32; 8],
-    tape: &mut Tape,
-    typed: &mut Answers,
-    record: &mut [u8; 8],
-    expect: &mut [u8; 16],
-    tally: &mut [u64; 4],
-    b: u8,
-) {
-    if p[TEXT] != 0 {
-        pass_byte(p, b);
-        return;
-    }
-    if b == b'/' {
-        p[TEXT] = 2;
-        return;
-    }
-    if b == b'#' {
-        close(p, tape, typed, tally);
-        open(p, typed, tally);
-        return;
-    }
-    if take_byte(p, record, expect, b) {
-        join(tape, typed, record, expect, tally);
-    }
-}
-
-// A text of charts: a line of output for each, and the tally.
-pub fn charts(tally: &mut [u64; 4], text: &[u8]) {
-    let mut p = [0u32; 8];
-    let mut tape = [0u8; 512];
-    let mut typed = [0u8; 1088];
-    let mut record = [0u8; 8];
-    let mut expect = [0u8; 16];
+fn take_bytes(path: &[u8], reader: Reader, lump: &[u8]) -> Reader {
+    let mut next = reader;
     let mut i: usize = 0;
-    while i < text.len() {
-        read_byte(
-            &mut p,
-            &mut tape,
-            &mut typed,
-            &mut record,
-            &mut expect,
-            tally,
-            text[i],
-        );
+    while i < lump.len() {
+        let b = lump[i];
+        i += 1;
+        next = told(path, take_byte(next, b));
+    }
+    next
+}
+
+// A file that could not be read, or that has no chart.
+fn with_unread(totals: Totals) -> Totals {
+    let mut next = totals;
+    next.unread = more(totals.unread);
+    next
+}
+
+fn ended(reader: Reader) -> Reader {
+    let mut next = reader;
+    next.more = false;
+    next
+}
+
+// The file cannot be read to its end: the open chart is not run.
+fn cut_off(reader: Reader) -> Reader {
+    let mut chart = reader.chart;
+    chart.well = false;
+    let mut next = ended(reader);
+    next.totals = with_unread(reader.totals);
+    next.chart = chart;
+    next
+}
+
+// One read.
+fn take_lump(fd: i32, path: &[u8], reader: Reader) -> Reader {
+    let mut lump = io::buffer();
+    let got = libc::read(fd, &mut lump);
+    if got < 0 {
+        os::fail(path);
+        return cut_off(reader);
+    }
+    if got == 0 {
+        return ended(reader);
+    }
+    let n = io::count(got, &lump);
+    take_bytes(path, reader, &lump[..n])
+}
+
+// The end of a file: its last line has to be whole, and its last chart is over.
+fn end_file(path: &[u8], reader: Reader) -> Totals {
+    if notation::is_begun(reader.line) {
+        let last = told(path, fresh_line(with_fault(reader, notation::CUT)));
+        return close(last.chart, last.totals);
+    }
+    close(reader.chart, reader.totals)
+}
+
+fn take_file(fd: i32, path: &[u8], totals: Totals) -> Totals {
+    let mut reader = start(totals);
+    let mut turns = u64::MAX;
+    while turns > 0 {
+        reader = take_lump(fd, path, reader);
+        if !reader.more {
+            return end_file(path, reader);
+        }
+        turns -= 1;
+    }
+    // No file is so long.
+    end_file(path, cut_off(reader))
+}
+
+// A file with no chart, and nothing wrong, is told and counted.
+fn seen(path: &[u8], before: Totals, after: Totals) -> Totals {
+    let silent = (before.charts == after.charts)
+        & (before.bad == after.bad)
+        & (before.unread == after.unread);
+    if silent {
+        say(path);
+        say(b": there is no chart in it\n");
+        return with_unread(after);
+    }
+    after
+}
+
+fn open_file(path: &[u8], totals: Totals) -> Totals {
+    let fd = os::open_read(path);
+    if fd < 0 {
+        os::fail(path);
+        return with_unread(totals);
+    }
+    let next = take_file(fd, path, totals);
+    libc::close(fd);
+    seen(path, totals, next)
+}
+
+fn take_argument(i: usize, totals: Totals) -> Totals {
+    let mut word = io::buffer();
+    let n = os::arg(i, &mut word);
+    if os::errno() != 0 {
+        os::fail(b"duel: an argument");
+        return with_unread(totals);
+    }
+    open_file(&word[..n], totals)
+}
+
+// The files that the arguments name.
+pub fn take_arguments(words: usize) -> Totals {
+    let mut totals = no_totals();
+    let mut i: usize = 1;
+    while i < words {
+        totals = take_argument(i, totals);
         i += 1;
     }
-    close(&mut p, &tape, &typed, tally);
+    totals
 }
 
-// The total.
-pub fn total(tally: &[u64; 4]) {
-    show::print_number(tally[CHARTS]);
-    show::print(b" charts, ");
-    show::print_number(tally[AGREED]);
-    show::print(b" ok on both boards, ");
-    show::print_number(tally[RECORDS]);
-    show::print(b" records\n");
+pub fn print_totals(totals: Totals) {
+    show::print_with(
+        b"% charts, % ok on both boards, % records\n",
+        totals.charts,
+        totals.agreed,
+        totals.records,
+        0,
+    );
+}
+
+// The last line: all that can go wrong, counted.
+pub fn print_last(totals: Totals, differences: u64) {
+    show::print_with(
+        b"files not read: %, bad lines: %, charts failed: %, differences: %\n",
+        totals.unread,
+        totals.bad,
+        difference(totals.charts, totals.agreed),
+        differences,
+    );
+}
+
+fn difference(a: u64, b: u64) -> u64 {
+    if b < a {
+        return a - b;
+    }
+    0
 }

@@ -40,9 +40,14 @@ fn same_counter(a: Counter, b: Counter) -> bool {
 }
 
 fn same_timer(a: Timer, b: Timer) -> bool {
-    same_counter(a.counters[0], b.counters[0])
-        & same_counter(a.counters[1], b.counters[1])
-        & same_counter(a.counters[2], b.counters[2])
+    let mut i: usize = 0;
+    while i < 3 {
+        if !same_counter(a.counters[i], b.counters[i]) {
+            return false;
+        }
+        i += 1;
+    }
+    true
 }
 
 fn same_span(a: Span, b: Span) -> bool {
@@ -57,10 +62,14 @@ fn same_channel(a: Channel, b: Channel) -> bool {
 }
 
 fn same_channels(a: Dma, b: Dma) -> bool {
-    same_channel(a.channels[0], b.channels[0])
-        & same_channel(a.channels[1], b.channels[1])
-        & same_channel(a.channels[2], b.channels[2])
-        & same_channel(a.channels[3], b.channels[3])
+    let mut i: usize = 0;
+    while i < 4 {
+        if !same_channel(a.channels[i], b.channels[i]) {
+            return false;
+        }
+        i += 1;
+    }
+    true
 }
 
 fn same_dma(a: Dma, b: Dma) -> bool {
@@ -77,14 +86,17 @@ fn same_dma(a: Dma, b: Dma) -> bool {
 }
 
 fn same_kept(a: Kept, b: Kept) -> bool {
-    (a.length == b.length)
-        & (a.bytes[0] == b.bytes[0])
-        & (a.bytes[1] == b.bytes[1])
-        & (a.bytes[2] == b.bytes[2])
-        & (a.bytes[3] == b.bytes[3])
-        & (a.bytes[4] == b.bytes[4])
-        & (a.bytes[5] == b.bytes[5])
-        & (a.bytes[6] == b.bytes[6])
+    if a.length != b.length {
+        return false;
+    }
+    let mut i: usize = 0;
+    while i < 7 {
+        if a.bytes[i] != b.bytes[i] {
+            return false;
+        }
+        i += 1;
+    }
+    true
 }
 
 pub fn same_board(a: Board, b: Board) -> bool {

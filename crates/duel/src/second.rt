@@ -1,8 +1,10 @@
 // The board of document 01 a second time, written from the documents alone and held against the first by running both on the same tapes.
 //
-// The whole board is one array of 96 numbers. What a record may be is read off tables, every refusal is decided before anything changes, and an
-// advance is worked out by division, with no loop over its pulses.
+// The whole board is one array of 96 numbers, which functions take and give back by value. What a record may be is read off tables, every refusal
+// is decided before anything changes, and an advance is worked out by division, with no loop over its pulses.
 ghost use Prim.Native.Nat.{_<_};
+
+pub type State = [u32; 96];
 
 // The interrupt chip: places 0 to 10.
 
@@ -88,8 +90,11 @@ const CURRENT_ADDRESS: usize = 3;
 
 const CHANNEL_MODE: usize = 4;
 
-// What a record may be. For each operation: bit i is set where byte i may be other than zero. (An advance over 65,535 pulses has byte 6 or 7 set.)
-const USED: [u32; 8] = [0x01, 0x07, 0x03, 0x07, 0x01, 0x31, 0x07, 0x00];
+// What a record may be. For each operation: what bytes 0 to 3, and bytes 4 to 7, may have other than zero. (An advance over 65,535 pulses has byte 6
+// or 7 set.)
+const USED_LOW: [u32; 8] = [0xFF, 0xFFFFFF, 0xFFFF, 0xFFFFFF, 0xFF, 0xFF, 0xFFFFFF, 0];
+
+const USED_HIGH: [u32; 8] = [0, 0, 0, 0, 0, 0xFFFF, 0, 0];
 // For each high nibble of a port: bit i is set where the port with low nibble i is open to a write, or to a read.
 const WRITABLE: [u32; 16] = [
     0x0003,
@@ -179,6 +184,13 @@ fn number(b: bool) -> u32
     0
 }
 
+pub fn choose(b: bool, x: u32, y: u32) -> u32 {
+    if b {
+        return x;
+    }
+    y
+}
+
 // Bit n of x, as 0 or 1.
 fn bit(x: u32, n: u32) -> u32
     ensures { λ r. ⌜ r < 2 ⌝ }
@@ -195,74 +207,92 @@ fn one(n: u32) -> u32 {
     1 << (n % 8)
 }
 
+// Four bytes, little end first.
+fn word(a: u32, b: u32, c: u32, d: u32) -> u32 {
+    a % 256 | b % 256 << 8 | c % 256 << 16 | d % 256 << 24
+}
+
+fn get(s: State, at: usize) -> u32 {
+    let i = at % 96;
+    s[i]
+}
+
+// The board with x at a place.
+fn set(s: State, at: usize, x: u32) -> State {
+    let mut next = s;
+    let i = at % 96;
+    next[i] = x;
+    next
+}
+
 // Where field f of counter c stands.
-fn of_counter(c: u32, f: usize) -> usize
-    ensures { λ r. ⌜ r < 96 ⌝ }
-{
+fn of_counter(c: u32, f: usize) -> usize {
     index(c % 3) % 3 * 16 + 16 + f % 16
 }
 
 // Where field f of a channel stands.
-fn of_channel(channel: u32, f: usize) -> usize
-    ensures { λ r. ⌜ r < 96 ⌝ }
-{
+fn of_channel(channel: u32, f: usize) -> usize {
     index(channel % 4) % 4 * 5 + 72 + f % 5
 }
 
-fn timer(s: &[u32; 96], c: u32, f: usize) -> u32 {
-    let at = of_counter(c, f);
-    s[at]
+fn timer(s: State, c: u32, f: usize) -> u32 {
+    get(s, of_counter(c, f))
 }
 
-fn set_timer(s: &mut [u32; 96], c: u32, f: usize, x: u32) {
-    let at = of_counter(c, f);
-    s[at] = x;
+fn set_timer(s: State, c: u32, f: usize, x: u32) -> State {
+    set(s, of_counter(c, f), x)
 }
 
-fn channel_of(s: &[u32; 96], channel: u32, f: usize) -> u32 {
-    let at = of_channel(channel, f);
-    s[at]
+fn channel_of(s: State, channel: u32, f: usize) -> u32 {
+    get(s, of_channel(channel, f))
 }
 
-fn set_channel(s: &mut [u32; 96], channel: u32, f: usize, x: u32) {
-    let at = of_channel(channel, f);
-    s[at] = x;
+fn set_channel(s: State, channel: u32, f: usize, x: u32) -> State {
+    set(s, of_channel(channel, f), x)
+}
+
+// What a record that is taken leaves: the board, the answer's data and its payload in three words, and 1 where OUT0 rose within an advance.
+struct Effect {
+    s: State,
+    data: u32,
+    first: u32,
+    second: u32,
+    third: u32,
+    rose: u32,
+}
+
+// The answer has data and no payload.
+fn with_data(s: State, data: u32) -> Effect {
+    Effect {
+        s: s,
+        data: data,
+        first: 0,
+        second: 0,
+        third: 0,
+        rose: 0,
+    }
+}
+
+// Data, and two words of payload.
+fn with_words(s: State, data: u32, first: u32, second: u32) -> Effect {
+    Effect {
+        s: s,
+        data: data,
+        first: first,
+        second: second,
+        third: 0,
+        rose: 0,
+    }
 }
 
 // Reset. Only what is not zero needs saying: level 7 lowest, gates high, channels masked.
-pub fn second_reset() -> [u32; 96] {
-    let mut s = [0u32; 96];
-    clear(&mut s);
-    s
-}
-
-fn clear(s: &mut [u32; 96]) {
-    *s = [0; 96];
-    s[LOWEST] = 7;
-    s[MASKS] = 15;
-    set_timer(s, 0, GATE, 1);
-    set_timer(s, 1, GATE, 1);
-    set_timer(s, 2, GATE, 1);
+pub fn second_reset() -> State {
+    let zero = [0u32; 96];
+    let s = set(set(zero, LOWEST, 7), MASKS, 15);
+    set_timer(set_timer(set_timer(s, 0, GATE, 1), 1, GATE, 1), 2, GATE, 1)
 }
 
 // What the tables say of a record: is it one at all?
-
-// 1 for a byte that is not zero.
-fn mark(b: u8) -> u32
-    ensures { λ r. ⌜ r < 2 ⌝ }
-{
-    number(b != 0)
-}
-
-// Bit i is set where byte i is not zero.
-fn marks(record: &[u8; 8]) -> u32 {
-    let low = mark(record[1]) * 2 + mark(record[2]) * 4 + mark(record[3]) * 8;
-    let high = mark(record[4]) * 16
-        + mark(record[5]) * 32
-        + mark(record[6]) * 64
-        + mark(record[7]) * 128;
-    low + high
-}
 
 fn open_to_write(port: u32) -> bool {
     let row = index(port / 16 % 16) % 16;
@@ -275,59 +305,38 @@ fn open_to_read(port: u32) -> bool {
 }
 
 fn known_lines(group: u32, levels: u32) -> bool {
-    if group > 2 {
-        return false;
-    }
     let row = index(group) % 4;
-    levels & !GROUP[row] == 0
+    (group < 3) & (levels & !GROUP[row] == 0)
 }
 
-fn unused_clear(record: &[u8; 8], op: u32) -> bool {
-    let row = index(op) % 8;
-    marks(record) & !USED[row] == 0
+// Ports, lines and END, where the record has them.
+fn operands_known(op: u32, x: u32, y: u32) -> bool {
+    match op {
+        1 => open_to_write(x),
+        2 => open_to_read(x),
+        3 => known_lines(x, y),
+        6 => x < 2,
+        _ => op < 7,
+    }
 }
 
 // The test of status 2, on the record's bytes alone.
-fn well_made(record: &[u8; 8]) -> bool {
-    let op = wide(record[0]);
-    let x = wide(record[1]);
-    if op > 6 {
-        return false;
-    }
-    if !unused_clear(record, op) {
-        return false;
-    }
-    if op == 1 {
-        return open_to_write(x);
-    }
-    if op == 2 {
-        return open_to_read(x);
-    }
-    if op == 3 {
-        return known_lines(x, wide(record[2]));
-    }
-    if op == 6 {
-        return x < 2;
-    }
-    true
+fn well_made(low: u32, high: u32, op: u32, x: u32, y: u32) -> bool {
+    let row = index(op) % 8;
+    let unused = low & !USED_LOW[row] | high & !USED_HIGH[row];
+    (unused == 0) & operands_known(op, x, y)
 }
 
 // The interrupt chip.
 
 // The eight lines: OUT0, and INTP1 to INTP7.
-fn lines(s: &[u32; 96]) -> u32 {
-    s[INTP] & 0xFE | timer(s, 0, OUT) % 2
+fn lines(s: State) -> u32 {
+    get(s, INTP) & 0xFE | timer(s, 0, OUT) % 2
 }
 
-fn level_triggered(s: &[u32; 96]) -> bool {
-    has(s[IW1], 3)
-}
-
-fn irr(s: &[u32; 96]) -> u32 {
-    if level_triggered(s) {
-        return lines(s);
-    }
-    s[EDGES] % 256
+// In level trigger (D3 of IW1) the lines are the requests.
+fn irr(s: State) -> u32 {
+    choose(has(get(s, IW1), 3), lines(s), get(s, EDGES) % 256)
 }
 
 // The rank of the best level of a set, 0 for the first, 8 where the set is empty. The set is turned so that the first rank is bit 0; every bit
@@ -341,45 +350,35 @@ fn best_rank(levels: u32, lowest: u32) -> u32 {
     u32::count_ones(!eight & 255)
 }
 
-fn level_at(rank: u32, lowest: u32) -> u32
-    ensures { λ r. ⌜ r < 8 ⌝ }
-{
+fn level_at(rank: u32, lowest: u32) -> u32 {
     (rank % 8 + lowest % 8 + 1) % 8
 }
 
-fn request_rank(s: &[u32; 96]) -> u32 {
-    best_rank(irr(s) & !s[IMR], s[LOWEST])
+fn request_rank(s: State) -> u32 {
+    best_rank(irr(s) & !get(s, IMR), get(s, LOWEST))
 }
 
-fn service_rank(s: &[u32; 96]) -> u32 {
-    best_rank(s[ISR], s[LOWEST])
+fn ready(s: State) -> bool {
+    get(s, STAGE) == 3
 }
 
-fn ready(s: &[u32; 96]) -> bool {
-    s[STAGE] == 3
-}
-
-fn int(s: &[u32; 96]) -> bool {
-    if ready(s) {
-        return request_rank(s) < service_rank(s);
-    }
-    false
+fn int(s: State) -> bool {
+    ready(s) & (request_rank(s) < best_rank(get(s, ISR), get(s, LOWEST)))
 }
 
 // Takes in the lines that rose during a record. `also` has bit 0 set where OUT0 rose on the way, whatever it is now.
-fn take_rises(s: &mut [u32; 96], before: u32, also: u32) {
-    if s[STAGE] != 3 {
-        return;
-    }
-    if level_triggered(s) {
-        return;
-    }
+fn take_rises(s: State, before: u32, also: u32) -> State {
     let rose = lines(s) & !before | also;
-    s[EDGES] = (s[EDGES] | rose) % 256;
+    let counted = ready(s) & !has(get(s, IW1), 3);
+    set(
+        s,
+        EDGES,
+        choose(counted, (get(s, EDGES) | rose) % 256, get(s, EDGES)),
+    )
 }
 
-fn icu_write_status(s: &[u32; 96], a0: u32, b: u32) -> u32 {
-    let stage = s[STAGE];
+fn icu_write_status(s: State, a0: u32, b: u32) -> u32 {
+    let stage = get(s, STAGE);
     if a0 == 1 {
         return number(stage == 0) * 3;
     }
@@ -389,132 +388,89 @@ fn icu_write_status(s: &[u32; 96], a0: u32, b: u32) -> u32 {
     if stage != 3 {
         return 3;
     }
-    if has(b, 3) {
-        return number(has(b, 2) || b & 0x60 == 0x60) * 4;
-    }
-    0
+    number(has(b, 3) & (has(b, 2) | (b & 0x60 == 0x60))) * 4
 }
 
-fn first_word(s: &mut [u32; 96], b: u32) {
-    s[STAGE] = 1;
-    s[IW1] = b;
-    s[IW4] = 0;
-    s[TURNS] = 0;
-    s[LOWEST] = 7;
-    s[IMR] = 0;
-    s[ISR] = 0;
-    s[EDGES] = 0;
-    s[SHOWN] = 0;
+fn first_word(s: State, b: u32) -> State {
+    let begun = set(set(set(s, STAGE, 1), IW1, b), IW4, 0);
+    let ranked = set(set(set(begun, TURNS, 0), LOWEST, 7), IMR, 0);
+    set(set(set(ranked, ISR, 0), EDGES, 0), SHOWN, 0)
 }
 
 // A0=1: IW2, IW4 or the mask, by what is awaited.
-fn second_port(s: &mut [u32; 96], b: u32) {
-    let stage = s[STAGE];
-    if stage == 1 {
-        s[IW2] = b;
-        s[STAGE] = 3 - bit(s[IW1], 0);
-        return;
+fn second_port(s: State, b: u32) -> State {
+    let stage = get(s, STAGE);
+    match stage {
+        1 => set(set(s, IW2, b), STAGE, 3 - bit(get(s, IW1), 0)),
+        2 => set(set(s, IW4, b % 4), STAGE, 3),
+        _ => set(s, IMR, b),
     }
-    if stage == 2 {
-        s[IW4] = b % 4;
-        s[STAGE] = 3;
-        return;
-    }
-    s[IMR] = b;
 }
 
 // PFCW: the level that it is about, 8 if none.
-fn finish_level(s: &[u32; 96], b: u32) -> u32 {
-    if has(b, 6) {
-        return b % 8;
-    }
-    let rank = service_rank(s);
-    if rank > 7 {
-        return 8;
-    }
-    level_at(rank, s[LOWEST])
+fn finish_level(s: State, b: u32) -> u32 {
+    let lowest = get(s, LOWEST);
+    let rank = best_rank(get(s, ISR), lowest);
+    choose(
+        has(b, 6),
+        b % 8,
+        choose(rank > 7, 8, level_at(rank, lowest)),
+    )
 }
 
 // PFCW. D5 (FI) clears the level's bit of ISR, D7 (RP) makes it lowest. With FI and SIL both 0 it is the switch of rotation in self-FI instead.
-fn finish_word(s: &mut [u32; 96], b: u32) {
-    if b & 0x60 == 0 {
-        s[TURNS] = bit(b, 7);
-        return;
-    }
+fn finish_word(s: State, b: u32) -> State {
     let level = finish_level(s, b);
+    if b & 0x60 == 0 {
+        return set(s, TURNS, bit(b, 7));
+    }
     if level > 7 {
-        return;
+        return s;
     }
-    if has(b, 5) {
-        s[ISR] = s[ISR] & !one(level);
-    }
-    if has(b, 7) {
-        s[LOWEST] = level;
-    }
+    let isr = choose(has(b, 5), get(s, ISR) & !one(level), get(s, ISR));
+    let lowest = choose(has(b, 7), level, get(s, LOWEST));
+    set(set(s, ISR, isr), LOWEST, lowest)
 }
 
-fn mode_word_of_icu(s: &mut [u32; 96], b: u32) {
-    if has(b, 1) {
-        s[SHOWN] = bit(b, 0);
-    }
-}
-
-fn icu_write(s: &mut [u32; 96], a0: u32, b: u32) {
+fn icu_write(s: State, a0: u32, b: u32) -> State {
     if a0 == 1 {
-        second_port(s, b);
-        return;
+        return second_port(s, b);
     }
     if has(b, 4) {
-        first_word(s, b);
-        return;
+        return first_word(s, b);
     }
     if has(b, 3) {
-        mode_word_of_icu(s, b);
-        return;
+        return set(s, SHOWN, choose(has(b, 1), bit(b, 0), get(s, SHOWN)));
     }
-    finish_word(s, b);
+    finish_word(s, b)
 }
 
-fn icu_read(s: &[u32; 96], a0: u32) -> u32 {
+fn icu_read(s: State, a0: u32) -> u32 {
     if a0 == 1 {
-        return s[IMR];
+        return get(s, IMR);
     }
-    if s[SHOWN] == 1 {
-        return s[ISR];
-    }
-    irr(s)
+    choose(get(s, SHOWN) == 1, get(s, ISR), irr(s))
 }
 
 // The state's part of an acknowledge of level n.
-fn accept(s: &mut [u32; 96], n: u32) {
-    s[EDGES] = s[EDGES] & !one(n);
-    if !has(s[IW4], 1) {
-        s[ISR] = s[ISR] | one(n);
-        return;
+fn accept(s: State, n: u32) -> State {
+    let taken = set(s, EDGES, get(s, EDGES) & !one(n));
+    if has(get(s, IW4), 1) {
+        return set(taken, LOWEST, choose(get(s, TURNS) == 1, n, get(s, LOWEST)));
     }
-    if s[TURNS] == 1 {
-        s[LOWEST] = n;
-    }
+    set(taken, ISR, get(s, ISR) | one(n))
 }
 
-// The low byte of the CALL address.
-fn call_low(word: u32, n: u32) -> u32 {
-    if has(word, 2) {
-        return word & 0xE0 | n % 8 * 4;
+fn acknowledge(s: State) -> Effect {
+    let n = level_at(request_rank(s), get(s, LOWEST));
+    let iw1 = get(s, IW1);
+    let iw2 = get(s, IW2);
+    if has(get(s, IW4), 0) {
+        return with_data(accept(s, n), iw2 & 0xF8 | n);
     }
-    word & 0xC0 | n % 8 * 8
-}
-
-fn acknowledge(s: &mut [u32; 96], answer: &mut [u8; 16]) {
-    let n = level_at(request_rank(s), s[LOWEST]);
-    accept(s, n);
-    if has(s[IW4], 0) {
-        answer[2] = narrow(s[IW2] & 0xF8 | n);
-        return;
-    }
-    answer[4] = 0xCD;
-    answer[5] = narrow(call_low(s[IW1], n));
-    answer[6] = narrow(s[IW2]);
+    // The low byte of the CALL address.
+    let low = choose(has(iw1, 2), iw1 & 0xE0 | n % 8 * 4, iw1 & 0xC0 | n % 8 * 8);
+    with_words(accept(s, n), 0, word(0xCD, low, iw2, 0), 0)
 }
 
 // The timer.
@@ -527,21 +483,27 @@ fn steps(x: u32) -> u32
 }
 
 // The count that this byte would complete, or 65,536 where it is the first of two.
-fn completed(s: &[u32; 96], c: u32, b: u32) -> u32 {
+fn completed(s: State, c: u32, b: u32) -> u32 {
     let format = timer(s, c, FORMAT);
-    if format == 1 {
-        return b % 256;
+    let both = choose(
+        timer(s, c, HALVED) == 1,
+        b % 256 * 256 + timer(s, c, HALF) % 256,
+        65536,
+    );
+    match format {
+        1 => b % 256,
+        2 => b % 256 * 256,
+        _ => both,
     }
-    if format == 2 {
-        return b % 256 * 256;
-    }
-    if timer(s, c, HALVED) == 1 {
-        return b % 256 * 256 + timer(s, c, HALF) % 256;
-    }
-    65536
 }
 
-fn control_status(s: &[u32; 96], b: u32) -> u32 {
+// For a mode word: 1 for mode 0, 2 for mode 2, 0 for a mode that is not built.
+fn mode_of(b: u32) -> u32 {
+    let row = index(b / 2 % 8) % 8;
+    MODES[row]
+}
+
+fn control_status(s: State, b: u32) -> u32 {
     let c = b / 64 % 4;
     if c == 3 {
         return 4;
@@ -549,286 +511,254 @@ fn control_status(s: &[u32; 96], b: u32) -> u32 {
     if b & 0x30 == 0 {
         return number(timer(s, c, MODE) == 0) * 3;
     }
-    if has(b, 0) {
-        return 4;
-    }
-    let row = index(b / 2 % 8) % 8;
-    number(MODES[row] == 0) * 4
+    number(has(b, 0) | (mode_of(b) == 0)) * 4
 }
 
-fn timer_write_status(s: &[u32; 96], port: u32, b: u32) -> u32 {
+fn timer_write_status(s: State, port: u32, b: u32) -> u32 {
     if port == 3 {
         return control_status(s, b);
     }
     let mode = timer(s, port, MODE);
-    if mode == 0 {
-        return 3;
+    match mode {
+        0 => 3,
+        2 => number(completed(s, port, b) == 1) * 6,
+        _ => 0,
     }
-    if mode == 2 {
-        return number(completed(s, port, b) == 1) * 6;
-    }
-    0
 }
 
-fn latch(s: &mut [u32; 96], c: u32) {
+fn latch(s: State, c: u32) -> State {
     if timer(s, c, LATCHED) == 1 {
-        return;
+        return s;
     }
-    set_timer(s, c, LATCH, timer(s, c, VALUE));
-    set_timer(s, c, LATCHED, 1);
+    set_timer(set_timer(s, c, LATCH, timer(s, c, VALUE)), c, LATCHED, 1)
 }
 
-fn timer_mode_word(s: &mut [u32; 96], c: u32, b: u32) {
-    let row = index(b / 2 % 8) % 8;
-    let mode = MODES[row];
-    set_timer(s, c, MODE, mode);
-    set_timer(s, c, FORMAT, b / 16 % 4);
-    set_timer(s, c, OUT, number(mode == 2));
-    set_timer(s, c, COMPLETE, 0);
-    set_timer(s, c, WAITING, 0);
-    set_timer(s, c, TRIGGER, 0);
-    set_timer(s, c, HALVED, 0);
-    set_timer(s, c, PLACE, 0);
-    set_timer(s, c, LATCHED, 0);
+fn timer_mode_word(s: State, c: u32, b: u32) -> State {
+    let mode = mode_of(b);
+    let said = set_timer(set_timer(s, c, MODE, mode), c, FORMAT, b / 16 % 4);
+    let level = set_timer(said, c, OUT, number(mode == 2));
+    let rest = set_timer(set_timer(level, c, COMPLETE, 0), c, WAITING, 0);
+    let bytes = set_timer(set_timer(rest, c, TRIGGER, 0), c, HALVED, 0);
+    set_timer(set_timer(bytes, c, PLACE, 0), c, LATCHED, 0)
 }
 
-fn complete(s: &mut [u32; 96], c: u32, count: u32) {
-    set_timer(s, c, COUNT, count);
-    set_timer(s, c, HALVED, 0);
-    if timer(s, c, MODE) == 1 || timer(s, c, COMPLETE) == 0 {
-        set_timer(s, c, WAITING, 1);
-    }
-    set_timer(s, c, COMPLETE, 1);
+fn complete(s: State, c: u32, count: u32) -> State {
+    let at_once = (timer(s, c, MODE) == 1) | (timer(s, c, COMPLETE) == 0);
+    let waiting = choose(at_once, 1, timer(s, c, WAITING));
+    let counted = set_timer(set_timer(s, c, COUNT, count), c, HALVED, 0);
+    set_timer(set_timer(counted, c, WAITING, waiting), c, COMPLETE, 1)
 }
 
-fn count_byte(s: &mut [u32; 96], c: u32, b: u32) {
+fn count_byte(s: State, c: u32, b: u32) -> State {
     let count = completed(s, c, b);
-    if timer(s, c, MODE) == 1 {
-        set_timer(s, c, OUT, 0);
-    }
+    let out = choose(timer(s, c, MODE) == 1, 0, timer(s, c, OUT));
+    let level = set_timer(s, c, OUT, out);
     if count < 65536 {
-        complete(s, c, count);
-        return;
+        return complete(level, c, count);
     }
-    set_timer(s, c, HALF, b % 256);
-    set_timer(s, c, HALVED, 1);
+    set_timer(set_timer(level, c, HALF, b % 256), c, HALVED, 1)
 }
 
-fn timer_write(s: &mut [u32; 96], port: u32, b: u32) {
+fn timer_write(s: State, port: u32, b: u32) -> State {
     if port < 3 {
-        count_byte(s, port, b);
-        return;
+        return count_byte(s, port, b);
     }
     if b & 0x30 == 0 {
-        latch(s, b / 64 % 4);
-        return;
+        return latch(s, b / 64 % 4);
     }
-    timer_mode_word(s, b / 64 % 4, b);
+    timer_mode_word(s, b / 64 % 4, b)
 }
 
-fn shown_count(s: &[u32; 96], c: u32) -> u32 {
-    if timer(s, c, LATCHED) == 1 {
-        return timer(s, c, LATCH);
-    }
-    timer(s, c, VALUE)
-}
-
-fn timer_read(s: &mut [u32; 96], c: u32) -> u32 {
-    let count = shown_count(s, c);
+fn timer_read(s: State, c: u32) -> Effect {
+    let count = choose(
+        timer(s, c, LATCHED) == 1,
+        timer(s, c, LATCH),
+        timer(s, c, VALUE),
+    );
     let format = timer(s, c, FORMAT);
-    let second = timer(s, c, PLACE) == 1;
-    if format == 3 && !second {
-        set_timer(s, c, PLACE, 1);
-        return count % 256;
+    if (format == 3) & (timer(s, c, PLACE) != 1) {
+        return with_data(set_timer(s, c, PLACE, 1), count % 256);
     }
-    set_timer(s, c, PLACE, 0);
-    set_timer(s, c, LATCHED, 0);
-    if format == 1 {
-        return count % 256;
-    }
-    count / 256 % 256
+    let free = set_timer(set_timer(s, c, PLACE, 0), c, LATCHED, 0);
+    with_data(free, choose(format == 1, count, count / 256) % 256)
+}
+
+// The board after pulses of one counter, and how many made its OUT rise.
+struct Ticked {
+    s: State,
+    rises: u32,
+}
+
+fn pulsed(s: State, rises: u32) -> Ticked {
+    Ticked { s: s, rises: rises }
+}
+
+fn still(s: State) -> Ticked {
+    pulsed(s, 0)
 }
 
 // n pulses of mode 0 with the count in place and counting: OUT goes high where the value passes 0.
-fn run_down(s: &mut [u32; 96], c: u32, n: u32) -> u32
-    ensures { λ r. ⌜ r < 65536 ⌝ }
-{
+fn run_down(s: State, c: u32, n: u32) -> Ticked {
     let left = steps(timer(s, c, VALUE));
     let pulses = n % 65536;
-    set_timer(s, c, VALUE, (left + 65536 - pulses) % 65536);
+    let counted = set_timer(s, c, VALUE, (left + 65536 - pulses) % 65536);
     if pulses < left {
-        return 0;
+        return still(counted);
     }
-    let rose = number(timer(s, c, OUT) == 0);
-    set_timer(s, c, OUT, 1);
-    rose
+    pulsed(set_timer(counted, c, OUT, 1), number(timer(s, c, OUT) == 0))
 }
 
 // n pulses of mode 2 with the count in place and counting. The value is back at the count after `left` pulses and then after each `whole`.
-fn run_round(s: &mut [u32; 96], c: u32, n: u32) -> u32
-    ensures { λ r. ⌜ r < 65536 ⌝ }
-{
+fn run_round(s: State, c: u32, n: u32) -> Ticked {
     let left = steps(timer(s, c, VALUE));
     let whole = steps(timer(s, c, COUNT));
     let pulses = n % 65536;
     if pulses == 0 {
-        return 0;
+        return still(s);
     }
     if pulses < left {
-        set_timer(s, c, VALUE, left - pulses);
-        if left - pulses == 1 {
-            set_timer(s, c, OUT, 0);
-        }
-        return 0;
+        let value = left - pulses;
+        let out = choose(value == 1, 0, timer(s, c, OUT));
+        return still(set_timer(set_timer(s, c, VALUE, value), c, OUT, out));
     }
     let into = (pulses - left) % whole % 65536;
     let rounds = (pulses - left) / whole % 65536;
-    set_timer(s, c, VALUE, (whole + 65536 - into) % 65536);
     // The value reaches 1, and OUT goes low, before each return to the count but perhaps the first.
-    let first = number(left > 1 || timer(s, c, OUT) == 0);
-    set_timer(s, c, OUT, number(into + 1 != whole || into == 0));
-    if whole == 1 {
-        return first;
+    let first = number((left > 1) | (timer(s, c, OUT) == 0));
+    let counted = set_timer(s, c, VALUE, (whole + 65536 - into) % 65536);
+    let next = set_timer(counted, c, OUT, number((into + 1 != whole) | (into == 0)));
+    pulsed(next, choose(whole == 1, first, (rounds + first) % 65536))
+}
+
+fn transfer(s: State, c: u32) -> State {
+    let loaded = set_timer(s, c, VALUE, timer(s, c, COUNT) % 65536);
+    set_timer(set_timer(loaded, c, WAITING, 0), c, TRIGGER, 0)
+}
+
+// Mode 0 counts while GATE is high and no count is half written.
+fn falling(s: State, c: u32, n: u32) -> Ticked {
+    if (timer(s, c, GATE) == 1) & (timer(s, c, HALVED) == 0) {
+        return run_down(s, c, n);
     }
-    (rounds + first) % 65536
+    still(s)
 }
 
-fn transfer(s: &mut [u32; 96], c: u32) {
-    set_timer(s, c, VALUE, timer(s, c, COUNT) % 65536);
-    set_timer(s, c, WAITING, 0);
-    set_timer(s, c, TRIGGER, 0);
-}
-
-fn pulses_of_0(s: &mut [u32; 96], c: u32, n: u32) -> u32
-    ensures { λ r. ⌜ r < 65536 ⌝ }
-{
-    let mut left = n % 65536;
-    if timer(s, c, WAITING) == 1 && left > 0 {
-        transfer(s, c);
-        left -= 1;
+fn pulses_of_0(s: State, c: u32, n: u32) -> Ticked {
+    let left = n % 65536;
+    if left == 0 {
+        return falling(s, c, 0);
     }
-    if timer(s, c, GATE) == 1 && timer(s, c, HALVED) == 0 {
-        return run_down(s, c, left);
+    if timer(s, c, WAITING) == 1 {
+        return falling(transfer(s, c), c, left - 1);
     }
-    0
+    falling(s, c, left)
 }
 
-// The trigger's reload, where OUT may rise.
-fn reload(s: &mut [u32; 96], c: u32) -> u32
-    ensures { λ r. ⌜ r < 2 ⌝ }
-{
-    let rose = number(timer(s, c, OUT) == 0);
-    transfer(s, c);
-    set_timer(s, c, OUT, 1);
-    rose
-}
-
-fn turning(s: &mut [u32; 96], c: u32, n: u32) -> u32
-    ensures { λ r. ⌜ r < 65536 ⌝ }
-{
+// Mode 2 counts while GATE is high.
+fn turning(s: State, c: u32, n: u32) -> Ticked {
     if timer(s, c, GATE) == 1 {
         return run_round(s, c, n);
     }
-    0
+    still(s)
 }
 
-fn pulses_of_2(s: &mut [u32; 96], c: u32, n: u32) -> u32 {
+// The trigger's reload, where OUT may rise, and the pulses after it.
+fn reload(s: State, c: u32, n: u32) -> Ticked {
+    let after = turning(set_timer(transfer(s, c), c, OUT, 1), c, n);
+    let next = after.s;
+    pulsed(next, after.rises % 65536 + number(timer(s, c, OUT) == 0))
+}
+
+fn pulses_of_2(s: State, c: u32, n: u32) -> Ticked {
     let left = n % 65536;
     if left == 0 {
-        return 0;
+        return still(s);
     }
     if timer(s, c, WAITING) == 1 {
-        transfer(s, c);
-        return turning(s, c, left - 1);
+        return turning(transfer(s, c), c, left - 1);
     }
     if timer(s, c, TRIGGER) == 1 {
-        let rose = reload(s, c);
-        return turning(s, c, left - 1) + rose;
+        return reload(s, c, left - 1);
     }
     turning(s, c, left)
 }
 
 // n pulses of one counter, and how many made its OUT rise.
-fn pulses(s: &mut [u32; 96], c: u32, n: u32) -> u32 {
+fn pulses(s: State, c: u32, n: u32) -> Ticked {
+    let mode = timer(s, c, MODE);
     if timer(s, c, COMPLETE) == 0 {
-        return 0;
+        return still(s);
     }
-    if timer(s, c, MODE) == 1 {
-        return pulses_of_0(s, c, n);
+    match mode {
+        1 => pulses_of_0(s, c, n),
+        2 => pulses_of_2(s, c, n),
+        _ => still(s),
     }
-    if timer(s, c, MODE) == 2 {
-        return pulses_of_2(s, c, n);
-    }
-    0
 }
 
-fn gate(s: &mut [u32; 96], c: u32, level: u32) {
+fn gate(s: State, c: u32, level: u32) -> State {
     let was = timer(s, c, GATE);
-    set_timer(s, c, GATE, level);
+    let next = set_timer(s, c, GATE, level);
     if timer(s, c, MODE) != 2 {
-        return;
+        return next;
     }
     if level < was {
-        set_timer(s, c, OUT, 1);
+        return set_timer(next, c, OUT, 1);
     }
-    if level > was && timer(s, c, COMPLETE) == 1 {
-        set_timer(s, c, TRIGGER, 1);
+    if (level > was) & (timer(s, c, COMPLETE) == 1) {
+        return set_timer(next, c, TRIGGER, 1);
     }
+    next
 }
 
-// Four bytes, little end first, at one of the three places 4, 8 and 12 of the answer.
-fn put_word(answer: &mut [u8; 16], place: usize, x: u32) {
-    let at = place % 3 * 4 + 4;
-    answer[at] = narrow(x);
-    answer[at + 1] = narrow(x / 256);
-    answer[at + 2] = narrow(x / 65536);
-    answer[at + 3] = narrow(x / 16777216);
-}
-
-// Gives 1 where OUT0 rose, for the interrupt chip.
-fn advance(s: &mut [u32; 96], n: u32, answer: &mut [u8; 16]) -> u32 {
+// The rises of the three counters, one word each. OUT0's go to the interrupt chip too.
+fn advance(s: State, n: u32) -> Effect {
     let zero = pulses(s, 0, n);
-    let one = pulses(s, 1, n);
-    let two = pulses(s, 2, n);
-    put_word(answer, 0, zero);
-    put_word(answer, 1, one);
-    put_word(answer, 2, two);
-    number(zero > 0)
+    let a = zero.s;
+    let one = pulses(a, 1, n);
+    let b = one.s;
+    let two = pulses(b, 2, n);
+    let next = two.s;
+    Effect {
+        s: next,
+        data: 0,
+        first: zero.rises,
+        second: one.rises,
+        third: two.rises,
+        rose: number(zero.rises > 0),
+    }
 }
 
 // The DMA chip.
 
-fn dma_reset(s: &mut [u32; 96]) {
-    s[SELECTED] = 0;
-    s[BASE] = 0;
-    s[CONTROL] = 0;
-    s[ENDS] = 0;
-    s[MASKS] = 15;
-    s[FIRST] = 0;
-    s[SERVED] = 0;
-    blank(s, 0);
-    blank(s, 1);
-    blank(s, 2);
-    blank(s, 3);
+fn dma_reset(s: State) -> State {
+    let plain = set(set(set(s, SELECTED, 0), BASE, 0), CONTROL, 0);
+    let ranked = set(set(plain, ENDS, 0), MASKS, 15);
+    let idle = set(set(ranked, FIRST, 0), SERVED, 0);
+    blank(blank(blank(blank(idle, 0), 1), 2), 3)
 }
 
-fn blank(s: &mut [u32; 96], channel: u32) {
-    set_channel(s, channel, BASE_COUNT, 0);
-    set_channel(s, channel, BASE_ADDRESS, 0);
-    set_channel(s, channel, CURRENT_COUNT, 0);
-    set_channel(s, channel, CURRENT_ADDRESS, 0);
-    set_channel(s, channel, CHANNEL_MODE, 0);
+fn blank(s: State, channel: u32) -> State {
+    let base = set_channel(
+        set_channel(s, channel, BASE_COUNT, 0),
+        channel,
+        BASE_ADDRESS,
+        0,
+    );
+    let count = set_channel(base, channel, CURRENT_COUNT, 0);
+    set_channel(
+        set_channel(count, channel, CURRENT_ADDRESS, 0),
+        channel,
+        CHANNEL_MODE,
+        0,
+    )
 }
 
 fn dma_write_status(register: u32, b: u32) -> u32 {
     let row = index(register) % 16;
-    if (b % 256 + 256) & UNBUILT[row] != 0 {
-        return 4;
-    }
-    if register == 10 {
-        return number(b & 0xC0 == 0xC0 || b & 0x0C == 0x0C) * 4;
-    }
-    0
+    let unbuilt = (b % 256 + 256) & UNBUILT[row] != 0;
+    let mode = (register == 10) & ((b & 0xC0 == 0xC0) | (b & 0x0C == 0x0C));
+    number(unbuilt | mode) * 4
 }
 
 fn dma_read_status(register: u32) -> u32 {
@@ -861,86 +791,80 @@ fn replaced(x: u32, register: u32, b: u32) -> u32 {
     x & !(255 << shift) | b % 256 << shift
 }
 
-fn write_number(s: &mut [u32; 96], register: u32, b: u32) {
-    let channel = s[SELECTED];
+// A number of a channel, with one byte replaced.
+fn write_byte(s: State, channel: u32, f: usize, register: u32, b: u32) -> State {
+    set_channel(
+        s,
+        channel,
+        f,
+        replaced(channel_of(s, channel, f), register, b),
+    )
+}
+
+fn write_number(s: State, register: u32, b: u32) -> State {
+    let channel = get(s, SELECTED);
+    let f = field_of(register);
+    let base = write_byte(s, channel, f, register, b);
+    if get(s, BASE) == 0 {
+        return write_byte(base, channel, f + 2, register, b);
+    }
+    base
+}
+
+fn read_number(s: State, register: u32) -> u32 {
+    let channel = get(s, SELECTED);
     let f = field_of(register);
     let base = channel_of(s, channel, f);
     let current = channel_of(s, channel, f + 2);
-    set_channel(s, channel, f, replaced(base, register, b));
-    if s[BASE] == 0 {
-        set_channel(s, channel, f + 2, replaced(current, register, b));
+    (choose(get(s, BASE) == 1, base, current) >> shift_of(register)) % 256
+}
+
+fn write_control(s: State, b: u32) -> State {
+    let first = choose(get(s, CONTROL) & b & 0x10 == 0, 0, get(s, FIRST));
+    set(set(s, FIRST, first), CONTROL, b)
+}
+
+// Register 0 resets the chip where D0 is set.
+fn write_command(s: State, b: u32) -> State {
+    if has(b, 0) {
+        return dma_reset(s);
+    }
+    s
+}
+
+fn dma_write(s: State, register: u32, b: u32) -> State {
+    match register {
+        0 => write_command(s, b),
+        1 => set(set(s, SELECTED, b % 4), BASE, bit(b, 2)),
+        2..=6 => write_number(s, register, b),
+        8 => write_control(s, b),
+        10 => set_channel(s, get(s, SELECTED), CHANNEL_MODE, b),
+        15 => set(s, MASKS, b % 16),
+        _ => s,
     }
 }
 
-fn read_number(s: &[u32; 96], register: u32) -> u32 {
-    let f = field_of(register);
-    let shift = shift_of(register);
-    if s[BASE] == 1 {
-        return (channel_of(s, s[SELECTED], f) >> shift) % 256;
-    }
-    (channel_of(s, s[SELECTED], f + 2) >> shift) % 256
-}
-
-fn write_control(s: &mut [u32; 96], b: u32) {
-    if s[CONTROL] & b & 0x10 == 0 {
-        s[FIRST] = 0;
-    }
-    s[CONTROL] = b;
-}
-
-fn dma_write(s: &mut [u32; 96], register: u32, b: u32) {
-    if register == 0 {
-        if has(b, 0) {
-            dma_reset(s);
-        }
-        return;
-    }
-    if register == 1 {
-        s[SELECTED] = b % 4;
-        s[BASE] = bit(b, 2);
-        return;
-    }
-    if register < 7 {
-        write_number(s, register, b);
-        return;
-    }
-    if register == 8 {
-        write_control(s, b);
-        return;
-    }
-    if register == 10 {
-        let channel = s[SELECTED];
-        set_channel(s, channel, CHANNEL_MODE, b);
-        return;
-    }
-    if register == 15 {
-        s[MASKS] = b % 16;
+// What a register shows.
+fn dma_shown(s: State, register: u32) -> u32 {
+    let channel = get(s, SELECTED);
+    match register {
+        1 => one(channel) | bit(get(s, BASE), 0) * 16,
+        2..=6 => read_number(s, register),
+        8 => get(s, CONTROL),
+        10 => channel_of(s, channel, CHANNEL_MODE),
+        11 => get(s, REQUESTS) % 16 * 16 + get(s, ENDS) % 16,
+        15 => get(s, MASKS),
+        _ => 0,
     }
 }
 
-fn dma_read(s: &mut [u32; 96], register: u32) -> u32 {
-    let channel = s[SELECTED];
-    if register == 1 {
-        return one(channel) | bit(s[BASE], 0) * 16;
-    }
-    if register < 7 {
-        return read_number(s, register);
-    }
-    if register == 8 {
-        return s[CONTROL];
-    }
-    if register == 10 {
-        return channel_of(s, channel, CHANNEL_MODE);
-    }
+// Reading status clears the end bits.
+fn dma_read(s: State, register: u32) -> Effect {
+    let shown = dma_shown(s, register);
     if register == 11 {
-        let status = s[REQUESTS] % 16 * 16 + s[ENDS] % 16;
-        s[ENDS] = 0;
-        return status;
+        return with_data(set(s, ENDS, 0), shown);
     }
-    if register == 15 {
-        return s[MASKS];
-    }
-    0
+    with_data(s, shown)
 }
 
 // The first-ranked of a set of channels that is not empty: the same turning and counting, on four bits.
@@ -954,24 +878,23 @@ fn best_channel(channels: u32, first: u32) -> u32
     (u32::count_ones(!four & 15) % 4 + first % 4) % 4
 }
 
-fn grant(s: &mut [u32; 96], answer: &mut [u8; 16]) {
-    let wanting = s[REQUESTS] & !s[MASKS] & 15;
-    if wanting == 0 || has(s[CONTROL], 2) {
-        return;
+fn grant(s: State) -> Effect {
+    let wanting = get(s, REQUESTS) & !get(s, MASKS) & 15;
+    let channel = best_channel(wanting, get(s, FIRST));
+    if (wanting == 0) | has(get(s, CONTROL), 2) {
+        return with_data(s, 0);
     }
-    let channel = best_channel(wanting, s[FIRST]);
-    s[SERVED] = channel + 1;
-    answer[4] = 1;
-    answer[5] = narrow(channel);
+    with_words(set(s, SERVED, channel + 1), 0, word(1, channel, 0, 0), 0)
 }
 
 // Service stops.
-fn stop(s: &mut [u32; 96], channel: u32, answer: &mut [u8; 16]) {
-    s[SERVED] = 0;
-    if has(s[CONTROL], 4) {
-        s[FIRST] = (channel % 4 + 1) % 4;
-    }
-    answer[7] = 1;
+fn stop(s: State, channel: u32) -> State {
+    let rotated = choose(
+        has(get(s, CONTROL), 4),
+        (channel % 4 + 1) % 4,
+        get(s, FIRST),
+    );
+    set(set(s, SERVED, 0), FIRST, rotated)
 }
 
 // One byte at an address of memory, by the channel's direction: what moves.
@@ -995,74 +918,60 @@ fn move_byte(mode: u32, address: u32, device: u8, memory: &mut [u8]) -> u8 {
 
 // One step up or down of a 24-bit address.
 fn stepped(mode: u32, address: u32) -> u32 {
-    if has(mode, 5) {
-        return (address % 16777216 + 16777215) % 16777216;
-    }
-    (address % 16777216 + 1) % 16777216
+    let by = choose(has(mode, 5), 16777215, 1);
+    (address % 16777216 + by % 16777216) % 16777216
 }
 
 // The end of a channel's work: reload or mask.
-fn end(s: &mut [u32; 96], channel: u32, mode: u32) {
-    s[ENDS] = s[ENDS] | one(channel);
+fn end(s: State, channel: u32, mode: u32) -> State {
+    let told = set(s, ENDS, get(s, ENDS) | one(channel));
     if has(mode, 4) {
         let count = channel_of(s, channel, BASE_COUNT);
         let address = channel_of(s, channel, BASE_ADDRESS);
-        set_channel(s, channel, CURRENT_COUNT, count);
-        set_channel(s, channel, CURRENT_ADDRESS, address);
-        return;
+        return set_channel(
+            set_channel(told, channel, CURRENT_COUNT, count),
+            channel,
+            CURRENT_ADDRESS,
+            address,
+        );
     }
-    s[MASKS] = s[MASKS] | one(channel);
+    set(told, MASKS, get(s, MASKS) | one(channel))
 }
 
-// One unit, with END as given.
-fn unit(
-    s: &mut [u32; 96],
-    channel: u32,
-    ended: bool,
-    device: u8,
-    memory: &mut [u8],
-    answer: &mut [u8; 16],
-) {
-    let mode = channel_of(s, channel, CHANNEL_MODE);
-    let address = channel_of(s, channel, CURRENT_ADDRESS);
+// One unit, with END as given and the byte that moved.
+fn unit(s: State, channel: u32, mode: u32, address: u32, ended: bool, moved: u8) -> Effect {
     let count = channel_of(s, channel, CURRENT_COUNT) % 65536;
-    answer[2] = move_byte(mode, address, device, memory);
-    answer[4] = 2;
-    answer[5] = narrow(channel);
-    put_word(answer, 1, address);
-    set_channel(s, channel, CURRENT_ADDRESS, stepped(mode, address));
-    set_channel(s, channel, CURRENT_COUNT, (count + 65535) % 65536);
-    if ended || count == 0 {
-        end(s, channel, mode);
-        answer[6] = 1;
-        stop(s, channel, answer);
-        return;
+    let place = set_channel(s, channel, CURRENT_ADDRESS, stepped(mode, address));
+    let next = set_channel(place, channel, CURRENT_COUNT, (count + 65535) % 65536);
+    let data = wide(moved);
+    if ended | (count == 0) {
+        let after = stop(end(next, channel, mode), channel);
+        return with_words(after, data, word(2, channel, 1, 1), address);
     }
     if mode / 64 % 4 == 1 {
-        stop(s, channel, answer);
+        return with_words(stop(next, channel), data, word(2, channel, 0, 1), address);
     }
+    with_words(next, data, word(2, channel, 0, 0), address)
 }
 
-fn cycle(s: &mut [u32; 96], record: &[u8; 8], memory: &mut [u8], answer: &mut [u8; 16]) {
-    let served = s[SERVED];
+fn cycle(s: State, ended: bool, device: u8, memory: &mut [u8]) -> Effect {
+    let served = get(s, SERVED);
     if served == 0 {
-        grant(s, answer);
-        return;
+        return grant(s);
     }
     let channel = (served % 8 + 7) % 8 % 4;
     let mode = channel_of(s, channel, CHANNEL_MODE);
-    if mode / 64 % 4 == 0 && !has(s[REQUESTS], channel) {
-        answer[4] = 3;
-        answer[5] = narrow(channel);
-        stop(s, channel, answer);
-        return;
+    let address = channel_of(s, channel, CURRENT_ADDRESS);
+    if (mode / 64 % 4 == 0) & !has(get(s, REQUESTS), channel) {
+        return with_words(stop(s, channel), 0, word(3, channel, 0, 1), 0);
     }
-    unit(s, channel, record[1] == 1, record[2], memory, answer);
+    let moved = move_byte(mode, address, device, memory);
+    unit(s, channel, mode, address, ended, moved)
 }
 
 // The board.
 
-fn write_status(s: &[u32; 96], port: u32, b: u32) -> u32 {
+fn write_status(s: State, port: u32, b: u32) -> u32 {
     if port < 2 {
         return icu_write_status(s, port, b);
     }
@@ -1072,9 +981,9 @@ fn write_status(s: &[u32; 96], port: u32, b: u32) -> u32 {
     dma_write_status(port % 16, b)
 }
 
-fn read_status(s: &[u32; 96], port: u32) -> u32 {
+fn read_status(s: State, port: u32) -> u32 {
     if port < 2 {
-        return number(s[STAGE] != 3) * 3;
+        return number(!ready(s)) * 3;
     }
     if port < 0x14 {
         return number(timer(s, port % 4, MODE) == 0) * 3;
@@ -1082,49 +991,41 @@ fn read_status(s: &[u32; 96], port: u32) -> u32 {
     dma_read_status(port % 16)
 }
 
-fn acknowledge_status(s: &[u32; 96]) -> u32 {
-    if s[STAGE] != 3 {
-        return 3;
+// What the chip says of a write, a read or an acknowledge; the bus must not be in service.
+fn chip_status(s: State, op: u32, x: u32, y: u32) -> u32 {
+    match op {
+        1 => write_status(s, x, y),
+        2 => read_status(s, x),
+        4 => choose(ready(s), number(!int(s)) * 5, 3),
+        _ => 0,
     }
-    number(!int(s)) * 5
 }
 
 // The record's status, decided before anything changes: 2, then 1, then what the chip says.
-fn status_of(s: &[u32; 96], record: &[u8; 8]) -> u32 {
-    if !well_made(record) {
+fn status_of(s: State, low: u32, high: u32, op: u32, x: u32, y: u32) -> u32 {
+    if !well_made(low, high, op, x, y) {
         return 2;
     }
-    let op = wide(record[0]);
-    if op != 1 && op != 2 && op != 4 {
-        return 0;
-    }
-    if s[SERVED] != 0 {
+    let asks = (op == 1) | (op == 2) | (op == 4);
+    if asks & (get(s, SERVED) != 0) {
         return 1;
     }
-    if op == 1 {
-        return write_status(s, wide(record[1]), wide(record[2]));
-    }
-    if op == 2 {
-        return read_status(s, wide(record[1]));
-    }
-    acknowledge_status(s)
+    chip_status(s, op, x, y)
 }
 
-fn write(s: &mut [u32; 96], port: u32, b: u32) {
+fn write(s: State, port: u32, b: u32) -> State {
     if port < 2 {
-        icu_write(s, port, b);
-        return;
+        return icu_write(s, port, b);
     }
     if port < 0x14 {
-        timer_write(s, port % 4, b);
-        return;
+        return timer_write(s, port % 4, b);
     }
-    dma_write(s, port % 16, b);
+    dma_write(s, port % 16, b)
 }
 
-fn read(s: &mut [u32; 96], port: u32) -> u32 {
+fn read(s: State, port: u32) -> Effect {
     if port < 2 {
-        return icu_read(s, port);
+        return with_data(s, icu_read(s, port));
     }
     if port < 0x14 {
         return timer_read(s, port % 4);
@@ -1132,78 +1033,86 @@ fn read(s: &mut [u32; 96], port: u32) -> u32 {
     dma_read(s, port % 16)
 }
 
-fn set_lines(s: &mut [u32; 96], group: u32, levels: u32) {
-    if group == 0 {
-        s[INTP] = levels;
-        return;
+fn set_lines(s: State, group: u32, levels: u32) -> State {
+    match group {
+        0 => set(s, INTP, levels),
+        2 => set(s, REQUESTS, levels),
+        _ => gate(
+            gate(gate(s, 0, bit(levels, 0)), 1, bit(levels, 1)),
+            2,
+            bit(levels, 2),
+        ),
     }
-    if group == 2 {
-        s[REQUESTS] = levels;
-        return;
-    }
-    gate(s, 0, bit(levels, 0));
-    gate(s, 1, bit(levels, 1));
-    gate(s, 2, bit(levels, 2));
 }
 
-// What a record that is taken does. Gives 1 where OUT0 rose within an advance.
-fn obey(s: &mut [u32; 96], record: &[u8; 8], memory: &mut [u8], answer: &mut [u8; 16]) -> u32 {
-    let op = wide(record[0]);
-    let x = wide(record[1]);
-    let y = wide(record[2]);
-    if op == 0 {
-        clear(s);
-        return 0;
+// What a record that is taken does. Bytes 4 and 5 are the pulses of an advance.
+fn obey(s: State, op: u32, x: u32, y: u32, high: u32, memory: &mut [u8]) -> Effect {
+    match op {
+        0 => with_data(second_reset(), 0),
+        1 => with_data(write(s, x, y), 0),
+        2 => read(s, x),
+        3 => with_data(set_lines(s, x, y), 0),
+        4 => acknowledge(s),
+        5 => advance(s, high % 65536),
+        _ => cycle(s, x == 1, narrow(y), memory),
     }
-    if op == 1 {
-        write(s, x, y);
-        return 0;
-    }
-    if op == 2 {
-        answer[2] = narrow(read(s, x));
-        return 0;
-    }
-    if op == 3 {
-        set_lines(s, x, y);
-        return 0;
-    }
-    if op == 4 {
-        acknowledge(s, answer);
-        return 0;
-    }
-    if op == 5 {
-        return advance(s, wide(record[4]) + wide(record[5]) * 256, answer);
-    }
-    cycle(s, record, memory, answer);
-    0
 }
 
-fn levels(s: &[u32; 96]) -> u32 {
+fn levels(s: State) -> u32 {
     timer(s, 0, OUT) % 2 + timer(s, 1, OUT) % 2 * 2 + timer(s, 2, OUT) % 2 * 4 + number(int(s)) * 8
 }
 
-// A record that is taken, and the edges that it made.
-fn act(s: &mut [u32; 96], record: &[u8; 8], memory: &mut [u8], answer: &mut [u8; 16]) {
-    let before = lines(s);
-    let also = obey(s, record, memory, answer);
-    take_rises(s, before, also);
+// The board after a record, and the record's answer.
+pub struct Answered {
+    pub s: State,
+    pub answer: [u8; 16],
 }
 
-// The three bytes that every answer has.
-fn seal(s: &[u32; 96], status: u32, op: u8, answer: &mut [u8; 16]) {
-    answer[0] = narrow(status);
-    answer[1] = op;
-    answer[3] = narrow(levels(s));
-}
-
-// One record on the board: its answer, and the board and the memory after it.
-pub fn second_step(s: &mut [u32; 96], record: &[u8; 8], memory: &mut [u8], answer: &mut [u8; 16]) {
-    *answer = [0; 16];
-    let status = status_of(s, record);
-    if status != 0 {
-        seal(s, status, record[0], answer);
-        return;
+// A board that no record has reached yet.
+pub fn unasked(s: State) -> Answered {
+    Answered {
+        s: s,
+        answer: [0; 16],
     }
-    act(s, record, memory, answer);
-    seal(s, 0, record[0], answer);
+}
+
+fn sealed(s: State, d: Effect, status: u32, op: u32) -> Answered {
+    let a = d.first;
+    let b = d.second;
+    let c = d.third;
+    Answered {
+        s: s,
+        answer: [
+            narrow(status),
+            narrow(op),
+            narrow(d.data),
+            narrow(levels(s)),
+            narrow(a),
+            narrow(a / 256),
+            narrow(a / 65536),
+            narrow(a / 16777216),
+            narrow(b),
+            narrow(b / 256),
+            narrow(b / 65536),
+            narrow(b / 16777216),
+            narrow(c),
+            narrow(c / 256),
+            narrow(c / 65536),
+            narrow(c / 16777216),
+        ],
+    }
+}
+
+// One record on the board: its bytes 0 to 3 and 4 to 7 as words, little end first.
+pub fn second_step(s: State, low: u32, high: u32, memory: &mut [u8]) -> Answered {
+    let op = low % 256;
+    let x = low / 256 % 256;
+    let y = low / 65536 % 256;
+    let status = status_of(s, low, high, op, x, y);
+    if status != 0 {
+        return sealed(s, with_data(s, 0), status, op);
+    }
+    let d = obey(s, op, x, y, high, memory);
+    let next = d.s;
+    sealed(take_rises(next, lines(s), d.rose), d, 0, op)
 }

@@ -1,6 +1,8 @@
 // A stretch of tape: 64 records at most, with room for their answers. Both boards run it. `differ_at` holds answers against answers and `first_apart`
 // memory against memory; nothing else compares.
 use super::second;
+use super::second::Answered;
+use super::second::State;
 
 pub type Tape = [u8; 512];
 // The answers of 64 records, and 64 bytes more that no board may write.
@@ -8,40 +10,33 @@ pub type Answers = [u8; 1088];
 
 pub type Memory = [u8; 4096];
 
-// The most records of a stretch.
-pub const MOST: usize = 64;
 // The answers that fit, with those that no record has.
 pub const ROOM: usize = 68;
 // A byte that no board has written yet.
 pub const UNWRITTEN: u8 = 0xA5;
 
-pub fn put_record(tape: &mut Tape, i: usize, record: &[u8; 8]) {
+pub fn put_record(tape: &mut Tape, i: usize, record: [u8; 8]) {
     let at = i % 64 * 8;
-    tape[at] = record[0];
-    tape[at + 1] = record[1];
-    tape[at + 2] = record[2];
-    tape[at + 3] = record[3];
-    tape[at + 4] = record[4];
-    tape[at + 5] = record[5];
-    tape[at + 6] = record[6];
-    tape[at + 7] = record[7];
+    let mut j: usize = 0;
+    while j < 8 {
+        tape[at + j] = record[j];
+        j += 1;
+    }
 }
 
-pub fn record_at(tape: &Tape, i: usize) -> [u8; 8] {
-    let at = i % 64 * 8;
-    [
-        tape[at],
-        tape[at + 1],
-        tape[at + 2],
-        tape[at + 3],
-        tape[at + 4],
-        tape[at + 5],
-        tape[at + 6],
-        tape[at + 7],
-    ]
+// Four bytes of a record, little end first: the first four where `half` is 0.
+fn word_at(tape: &Tape, i: usize, half: usize) -> u32 {
+    let at = i % 64 * 8 + half % 2 * 4;
+    let mut x: u32 = 0;
+    let mut j: usize = 0;
+    while j < 4 {
+        x = x >> 8 | second::wide(tape[at + j]) << 24;
+        j += 1;
+    }
+    x
 }
 
-pub fn put_answer(answers: &mut Answers, i: usize, answer: &[u8; 16]) {
+pub fn put_answer(answers: &mut Answers, i: usize, answer: [u8; 16]) {
     let at = i % 68 * 16;
     let mut j: usize = 0;
     while j < 16 {
@@ -61,30 +56,22 @@ pub fn answer_at(answers: &Answers, i: usize) -> [u8; 16] {
     answer
 }
 
-fn same_half(a: &[u8; 16], b: &[u8; 16], at: usize) -> bool {
-    let i = at % 2 * 8;
-    let low = (a[i] ^ b[i]) | (a[i + 1] ^ b[i + 1]) | (a[i + 2] ^ b[i + 2]) | (a[i + 3] ^ b[i + 3]);
-    let high = (a[i + 4] ^ b[i + 4])
-        | (a[i + 5] ^ b[i + 5])
-        | (a[i + 6] ^ b[i + 6])
-        | (a[i + 7] ^ b[i + 7]);
-    low | high == 0
-}
-
-fn same_answer(a: &[u8; 16], b: &[u8; 16]) -> bool {
-    same_half(a, b, 0) && same_half(a, b, 1)
-}
-
 // Whether the answers of record i differ. Records 64 to 67 stand for the bytes past the answers.
-pub fn differ_at(want: &Answers, got: &Answers, i: usize) -> bool {
-    let a = answer_at(want, i);
-    let b = answer_at(got, i);
-    !same_answer(&a, &b)
+fn differ_at(want: &Answers, got: &Answers, i: usize) -> bool {
+    let at = i % 68 * 16;
+    let mut j: usize = 0;
+    while j < 16 {
+        if want[at + j] != got[at + j] {
+            return true;
+        }
+        j += 1;
+    }
+    false
 }
 
-// The first record whose answers differ, or 68.
-pub fn first_differing(want: &Answers, got: &Answers) -> usize {
-    let mut i: usize = 0;
+// The first record, from `start` on, whose answers differ, or 68.
+pub fn next_differing(want: &Answers, got: &Answers, start: usize) -> usize {
+    let mut i = start % 68;
     while i < 68 {
         if differ_at(want, got, i) {
             return i;
@@ -92,6 +79,24 @@ pub fn first_differing(want: &Answers, got: &Answers) -> usize {
         i += 1;
     }
     68
+}
+
+// How many records have answers that differ.
+pub fn count_differing(want: &Answers, got: &Answers) -> u64 {
+    let mut n: u64 = 0;
+    let mut i: usize = 0;
+    while i < 68 {
+        n = n % 4294967296 + one_if(differ_at(want, got, i)) % 2;
+        i += 1;
+    }
+    n
+}
+
+pub fn one_if(b: bool) -> u64 {
+    if b {
+        return 1;
+    }
+    0
 }
 
 // The first place at which two memories differ, or 4,096.
@@ -124,39 +129,48 @@ pub fn copy_memory(from: &Memory, to: &mut Memory) {
 }
 
 // The second board, record by record.
-fn run_over(s: &mut [u32; 96], tape: &Tape, n: usize, memory: &mut [u8], answers: &mut Answers) {
+fn run_over(
+    start: State,
+    tape: &Tape,
+    n: usize,
+    memory: &mut [u8],
+    answers: &mut Answers,
+) -> Answered {
+    let mut last = second::unasked(start);
     let mut i: usize = 0;
     while i < n {
-        let record = record_at(tape, i);
-        let mut answer = [0u8; 16];
-        second::second_step(s, &record, memory, &mut answer);
-        put_answer(answers, i, &answer);
+        let s = last.s;
+        last = second::second_step(s, word_at(tape, i, 0), word_at(tape, i, 1), memory);
+        let answer = last.answer;
+        put_answer(answers, i, answer);
         i += 1;
     }
+    last
 }
 
 // The memory's first bytes, as many as the board is lent.
 fn run_cut(
-    s: &mut [u32; 96],
+    s: State,
     tape: &Tape,
     n: usize,
     memory: &mut [u8],
     length: usize,
     answers: &mut Answers,
-) {
+) -> Answered {
     if length <= memory.len() {
-        run_over(s, tape, n, &mut memory[0..length], answers);
+        return run_over(s, tape, n, &mut memory[0..length], answers);
     }
+    second::unasked(s)
 }
 
-// The first n records on the second board over the first `length` bytes of the memory.
+// The first n records on the second board over the first `length` bytes of the memory: the board after them.
 pub fn run_second(
-    s: &mut [u32; 96],
+    s: State,
     tape: &Tape,
     n: usize,
     memory: &mut Memory,
     length: usize,
     answers: &mut Answers,
-) {
-    run_cut(s, tape, n, memory, length, answers);
+) -> Answered {
+    run_cut(s, tape, n, memory, length, answers)
 }

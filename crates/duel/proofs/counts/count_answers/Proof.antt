@@ -1,20 +1,35 @@
--- `counts::count_answers` is safe and ends: i is at most n, and what is left falls. Assumes nothing.
+-- `counts::count_answers` is safe and ends: i is at most 64, and what is left falls. Assumes nothing.
 use Prim.Native.Nat.{_≤_, _-_}
 use borrow.Author.Needs.{needs}
 use Rattle.duel.proofs.counts.count_answers.Statement.{statement}
 use Rattle.duel.proofs.counts.count_answers.Tie as tie
 
 abbrev Inv-loop : tie.InvT-loop
-Inv-loop tally₀ answers n i₀ tally i = i ≤ n
+Inv-loop answers next₀ i₀ next i = i ≤ 64
 
 abbrev μ-loop : tie.MeasureT-loop
-μ-loop tally₀ answers n i₀ tally i = n - i
+μ-loop answers next₀ i₀ next i = 64 - i
 
 loop-holds : tie.Need-loop-holds Inv-loop μ-loop
 loop-holds c = search needs
 
-answer-at-requires : tie.Need-answer-at-requires Inv-loop μ-loop
-answer-at-requires c κs = search needs
+mul-place : tie.Need-mul-place Inv-loop μ-loop
+mul-place c = search needs
+
+element-copy-out-count-answer : tie.Need-element-copy-out-count-answer Inv-loop μ-loop
+element-copy-out-count-answer c = search needs
+
+add-count-answer : tie.Need-add-count-answer Inv-loop μ-loop
+add-count-answer c = search needs
+
+element-copy-out-count-answer-2 : tie.Need-element-copy-out-count-answer-2 Inv-loop μ-loop
+element-copy-out-count-answer-2 c = search needs
+
+add-count-answer-2 : tie.Need-add-count-answer-2 Inv-loop μ-loop
+add-count-answer-2 c = search needs
+
+element-copy-out-count-answer-3 : tie.Need-element-copy-out-count-answer-3 Inv-loop μ-loop
+element-copy-out-count-answer-3 c = search needs
 
 count-answer-requires : tie.Need-count-answer-requires Inv-loop μ-loop
 count-answer-requires c κs = search needs
@@ -38,7 +53,12 @@ count-answers-spec =
     Inv-loop
     μ-loop
     loop-holds
-    answer-at-requires
+    mul-place
+    element-copy-out-count-answer
+    add-count-answer
+    element-copy-out-count-answer-2
+    add-count-answer-2
+    element-copy-out-count-answer-3
     count-answer-requires
     add-i
     loop-less

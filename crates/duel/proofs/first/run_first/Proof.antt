@@ -5,10 +5,10 @@ use Rattle.duel.proofs.first.run_first.Statement.{statement}
 use Rattle.duel.proofs.first.run_first.Tie as tie
 
 abbrev Inv-loop : tie.InvT-loop
-Inv-loop tape n memory₀ length answers₀ tally₀ total run₀ at₀ memory answers tally run at = at ≤ total
+Inv-loop tape n memory₀ length answers₀ total run₀ at₀ memory answers run at = at ≤ total
 
 abbrev μ-loop : tie.MeasureT-loop
-μ-loop tape n memory₀ length answers₀ tally₀ total run₀ at₀ memory answers tally run at = total - at
+μ-loop tape n memory₀ length answers₀ total run₀ at₀ memory answers run at = total - at
 
 mul-total : tie.Need-mul-total Inv-loop μ-loop
 mul-total c = search needs

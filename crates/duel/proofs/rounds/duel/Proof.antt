@@ -5,10 +5,13 @@ use Rattle.duel.proofs.rounds.duel.Statement.{statement}
 use Rattle.duel.proofs.rounds.duel.Tie as tie
 
 abbrev Inv-loop : tie.InvT-loop
-Inv-loop n tally₀ round₀ t4 t5 tally round = round ≤ n
+Inv-loop n tally₀ round₀ t4 tally round = round ≤ n
 
 abbrev μ-loop : tie.MeasureT-loop
-μ-loop n tally₀ round₀ t4 t5 tally round = n - round
+μ-loop n tally₀ round₀ t4 tally round = n - round
+
+zero-requires : tie.Need-zero-requires Inv-loop μ-loop
+zero-requires c κs = search needs
 
 loop-holds : tie.Need-loop-holds Inv-loop μ-loop
 loop-holds c = search needs
@@ -25,23 +28,14 @@ loop-less c = search needs
 loop-again : tie.Need-loop-again Inv-loop μ-loop
 loop-again c = search needs
 
-slice-aggregate-print : tie.Need-slice-aggregate-print Inv-loop μ-loop
-slice-aggregate-print c = search needs
+slice-aggregate-print-with : tie.Need-slice-aggregate-print-with Inv-loop μ-loop
+slice-aggregate-print-with c = search needs
 
-print-requires : tie.Need-print-requires Inv-loop μ-loop
-print-requires c κs = search needs
+cast-print-with : tie.Need-cast-print-with Inv-loop μ-loop
+cast-print-with c = search needs
 
-cast-print-number : tie.Need-cast-print-number Inv-loop μ-loop
-cast-print-number c = search needs
-
-print-number-requires : tie.Need-print-number-requires Inv-loop μ-loop
-print-number-requires c κs = search needs
-
-slice-aggregate-print-2 : tie.Need-slice-aggregate-print-2 Inv-loop μ-loop
-slice-aggregate-print-2 c = search needs
-
-print-requires-2 : tie.Need-print-requires-2 Inv-loop μ-loop
-print-requires-2 c κs = search needs
+print-with-requires : tie.Need-print-with-requires Inv-loop μ-loop
+print-with-requires c κs = search needs
 
 print-all-requires : tie.Need-print-all-requires Inv-loop μ-loop
 print-all-requires c κs = search needs
@@ -55,16 +49,14 @@ duel-spec =
     (tie.spec
     Inv-loop
     μ-loop
+    zero-requires
     loop-holds
     run-round-requires
     add-round
     loop-less
     loop-again
-    slice-aggregate-print
-    print-requires
-    cast-print-number
-    print-number-requires
-    slice-aggregate-print-2
-    print-requires-2
+    slice-aggregate-print-with
+    cast-print-with
+    print-with-requires
     print-all-requires
     returns)

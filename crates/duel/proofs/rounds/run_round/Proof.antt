@@ -5,13 +5,10 @@ use Rattle.duel.proofs.rounds.run_round.Statement.{statement}
 use Rattle.duel.proofs.rounds.run_round.Tie as tie
 
 abbrev Inv-loop : tie.InvT-loop
-Inv-loop round tally₀ s₀ first-memory₀ second-memory₀ state₀ i₀ tally s first-memory second-memory state i = i ≤ 64
+Inv-loop round first-memory₀ second-memory₀ state₀ i₀ first-memory second-memory state i = i ≤ 64
 
 abbrev μ-loop : tie.MeasureT-loop
-μ-loop round tally₀ s₀ first-memory₀ second-memory₀ state₀ i₀ tally s first-memory second-memory state i = 64 - i
-
-second-reset-requires : tie.Need-second-reset-requires Inv-loop μ-loop
-second-reset-requires c κs = search needs
+μ-loop round first-memory₀ second-memory₀ state₀ i₀ first-memory second-memory state i = 64 - i
 
 fill-requires : tie.Need-fill-requires Inv-loop μ-loop
 fill-requires c κs = search needs
@@ -19,26 +16,8 @@ fill-requires c κs = search needs
 fill-requires-2 : tie.Need-fill-requires-2 Inv-loop μ-loop
 fill-requires-2 c κs = search needs
 
-add-start : tie.Need-add-start Inv-loop μ-loop
-add-start c = search needs
-
-index-requires : tie.Need-index-requires Inv-loop μ-loop
-index-requires c κs = search needs
-
-mul-start : tie.Need-mul-start Inv-loop μ-loop
-mul-start c = search needs
-
-array-read-start : tie.Need-array-read-start Inv-loop μ-loop
-array-read-start c = search needs
-
 start-requires : tie.Need-start-requires Inv-loop μ-loop
 start-requires c κs = search needs
-
-reset-requires : tie.Need-reset-requires Inv-loop μ-loop
-reset-requires c κs = search needs
-
-add-t24 : tie.Need-add-t24 Inv-loop μ-loop
-add-t24 c = search needs
 
 loop-holds : tie.Need-loop-holds Inv-loop μ-loop
 loop-holds c = search needs
@@ -67,16 +46,9 @@ run-round-spec =
     (tie.spec
     Inv-loop
     μ-loop
-    second-reset-requires
     fill-requires
     fill-requires-2
-    add-start
-    index-requires
-    mul-start
-    array-read-start
     start-requires
-    reset-requires
-    add-t24
     loop-holds
     mul-run-stretch
     run-stretch-requires

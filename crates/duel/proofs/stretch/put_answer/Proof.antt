@@ -16,8 +16,8 @@ mul-at c = search needs
 loop-holds : tie.Need-loop-holds Inv-loop μ-loop
 loop-holds c = search needs
 
-element-copy-out-answers : tie.Need-element-copy-out-answers Inv-loop μ-loop
-element-copy-out-answers c = search needs
+array-read-answers : tie.Need-array-read-answers Inv-loop μ-loop
+array-read-answers c = search needs
 
 add-answers : tie.Need-add-answers Inv-loop μ-loop
 add-answers c = search needs
@@ -45,7 +45,7 @@ put-answer-spec =
     μ-loop
     mul-at
     loop-holds
-    element-copy-out-answers
+    array-read-answers
     add-answers
     element-write-answers
     add-j

@@ -1,22 +1,28 @@
 -- `stretch::run_over` is safe and ends: i is at most n, what is left falls, and the memory keeps its length. Assumes nothing.
 use mathlib.Core.Path.{_≡_}
 use Prim.Native.Nat.{_≤_, _-_}
-use lib.ListN.{length}
 use borrow.Author.Needs.{needs}
+use lib.ListN.{length}
 use Rattle.duel.proofs.stretch.run_over.Statement.{statement}
 use Rattle.duel.proofs.stretch.run_over.Tie as tie
 
 abbrev Inv-loop : tie.InvT-loop
-Inv-loop s₀ tape n memory₀ answers₀ i₀ s memory answers i = (i ≤ n) × (length memory ≡ length memory₀)
+Inv-loop tape n memory₀ answers₀ last₀ i₀ memory answers last i = (i ≤ n) × (length memory ≡ length memory₀)
 
 abbrev μ-loop : tie.MeasureT-loop
-μ-loop s₀ tape n memory₀ answers₀ i₀ s memory answers i = n - i
+μ-loop tape n memory₀ answers₀ last₀ i₀ memory answers last i = n - i
+
+unasked-requires : tie.Need-unasked-requires Inv-loop μ-loop
+unasked-requires c κs = search needs
 
 loop-holds : tie.Need-loop-holds Inv-loop μ-loop
 loop-holds c = search needs
 
-record-at-requires : tie.Need-record-at-requires Inv-loop μ-loop
-record-at-requires c κs = search needs
+word-at-requires : tie.Need-word-at-requires Inv-loop μ-loop
+word-at-requires c κs = search needs
+
+word-at-requires-2 : tie.Need-word-at-requires-2 Inv-loop μ-loop
+word-at-requires-2 c κs = search needs
 
 second-step-requires : tie.Need-second-step-requires Inv-loop μ-loop
 second-step-requires c κs = search needs
@@ -45,8 +51,10 @@ run-over-spec =
     (tie.spec
     Inv-loop
     μ-loop
+    unasked-requires
     loop-holds
-    record-at-requires
+    word-at-requires
+    word-at-requires-2
     second-step-requires
     put-answer-requires
     add-i

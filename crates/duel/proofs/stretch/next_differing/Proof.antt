@@ -1,14 +1,14 @@
--- `stretch::first_differing` is safe and ends: i is at most 68, and what is left falls. Assumes nothing.
+-- `stretch::next_differing` is safe and ends: i is at most 68, and what is left falls. Assumes nothing.
 use Prim.Native.Nat.{_≤_, _-_}
 use borrow.Author.Needs.{needs}
-use Rattle.duel.proofs.stretch.first_differing.Statement.{statement}
-use Rattle.duel.proofs.stretch.first_differing.Tie as tie
+use Rattle.duel.proofs.stretch.next_differing.Statement.{statement}
+use Rattle.duel.proofs.stretch.next_differing.Tie as tie
 
 abbrev Inv-loop : tie.InvT-loop
-Inv-loop want got i₀ i = i ≤ 68
+Inv-loop want got start i₀ i = i ≤ 68
 
 abbrev μ-loop : tie.MeasureT-loop
-μ-loop want got i₀ i = 68 - i
+μ-loop want got start i₀ i = 68 - i
 
 loop-holds : tie.Need-loop-holds Inv-loop μ-loop
 loop-holds c = search needs
@@ -31,8 +31,8 @@ loop-again c = search needs
 returns-2 : tie.Need-returns-2 Inv-loop μ-loop
 returns-2 c = search needs
 
-pub first-differing-spec : {M : Type 1} → statement M
-first-differing-spec =
+pub next-differing-spec : {M : Type 1} → statement M
+next-differing-spec =
     tie.close
     (tie.spec
     Inv-loop
