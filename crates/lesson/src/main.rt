@@ -3,6 +3,7 @@
 mod answered;
 mod asked;
 mod notation;
+mod sentences;
 mod text;
 
 use board::Board;
@@ -12,14 +13,18 @@ use libc::STDOUT_FILENO;
 use notation::Parsed;
 use text::Text;
 
-// What is done with each record of a lesson.
+// What is done with each record of a lesson, or of a tape, or with each answer.
 const CHECK: u8 = 0;
 
-const RUN: u8 = 1;
+const ASSEMBLE: u8 = 1;
 
-const PIECES: u8 = 2;
+const RUN: u8 = 2;
 
-const ASSEMBLE: u8 = 3;
+const PIECES: u8 = 3;
+
+const LIST: u8 = 4;
+
+const EXPLAIN: u8 = 5;
 
 // A lesson under way. Its line, its memory or its tape are lent arrays beside it.
 struct Bench {
@@ -28,6 +33,8 @@ struct Bench {
     // lines ended so far, and the bytes of the one under way: 1,001 for any more than 1,000
     line: u64,
     held: usize,
+    // the record or the answer under way, where no lines are read
+    kept: [u8; 16],
     records: u64,
     refused: u64,
     bad: u64,
@@ -39,8 +46,12 @@ struct Bench {
     well: bool,
 }
 
-fn say(words: &[u8]) {
-    io::write_all(STDERR_FILENO, words);
+// Says something of a file.
+fn tell(path: &[u8], sentence: u8, first: u64, second: u64) {
+    io::write_all(STDERR_FILENO, path);
+    sentences::message(sentence, first, second)
+        .put(b'\n')
+        .complain();
 }
 
 // One more; no lesson is so long that it stays.
@@ -51,38 +62,28 @@ fn more(n: u64) -> u64 {
     n
 }
 
-fn is_run(mode: u8) -> bool {
-    if mode == RUN {
-        return true;
-    }
-    mode == PIECES
-}
-
 // A bad line, by file, line and column. Ten are told, and then no more. In a run there is none, unless the file changed since it was checked.
 fn tell_bad(path: &[u8], bench: Bench, column: usize, expected: u8) -> Bench {
     let mut next = bench;
     next.bad = more(bench.bad);
-    if is_run(bench.mode) {
+    if ASSEMBLE < bench.mode {
         next.more = false;
         next.well = false;
     }
     if 10 < next.bad {
         return next;
     }
-    say(path);
-    let place = Text::new()
-        .put(b':')
-        .decimal(bench.line)
-        .put(b':')
-        .decimal(column as u64)
-        .say(b": ");
-    notation::expected(place, expected).put(b'\n').complain();
+    tell(path, expected, bench.line, column as u64);
     next
+}
+
+fn tell_output() {
+    os::fail(b"lesson: standard output");
 }
 
 // What was printed could not be.
 fn fail_output(bench: Bench) -> Bench {
-    os::fail(b"lesson: standard output");
+    tell_output();
     let mut next = bench;
     next.more = false;
     next.well = false;
@@ -110,7 +111,7 @@ fn print_record(before: Board, bench: Bench, r: [u8; 8], a: [u8; 16]) -> bool {
     if bench.mode == RUN {
         return text::print_row(
             bench.line,
-            asked::words(before, r),
+            asked::words(before, r, a[0]),
             answered::words(before, r, a),
             a[3],
         );
@@ -120,30 +121,17 @@ fn print_record(before: Board, bench: Bench, r: [u8; 8], a: [u8; 16]) -> bool {
 
 // The record's bytes and its line, and below them the answer by itself.
 fn print_pieces(number: u64, r: [u8; 8], a: [u8; 16]) -> bool {
-    let line = notation::write(r);
-    let bytes = Text::new()
-        .number(number)
+    let facts = sentences::facts(r, 0, 0, 0, 0);
+    let bytes = sentences::asked(0x0c, facts);
+    let line = sentences::asked(notation::sentence(facts), facts);
+    let row = Text::number(number)
         .put(b' ')
-        .hex(r[0])
-        .put(b' ')
-        .hex(r[1])
-        .put(b' ')
-        .hex(r[2])
-        .put(b' ')
-        .hex(r[3])
-        .put(b' ')
-        .hex(r[4])
-        .put(b' ')
-        .hex(r[5])
-        .put(b' ')
-        .hex(r[6])
-        .put(b' ')
-        .hex(r[7])
+        .part(bytes, 0, bytes.n)
         .put(b' ')
         .pad(37)
         .part(line, 0, line.n)
         .put(b'\n');
-    if bytes.print() {
+    if row.print() {
         return print_answer(number, a);
     }
     false
@@ -152,7 +140,7 @@ fn print_pieces(number: u64, r: [u8; 8], a: [u8; 16]) -> bool {
 fn print_answer(number: u64, a: [u8; 16]) -> bool {
     text::print_row(
         number,
-        answered::operation(a[1]),
+        answered::operation(a),
         answered::words_alone(a),
         a[3],
     )
@@ -178,17 +166,12 @@ fn hold_record(bench: Bench, r: [u8; 8], tape: &mut [u8; 65536]) -> Bench {
 }
 
 fn put_record(tape: &mut [u8; 65536], at: usize, r: [u8; 8]) {
-    if 65528 < at {
-        return;
+    let mut k = 0;
+    while k < 8 {
+        let p = (at % 65536 + k) % 65536;
+        tape[p] = r[k];
+        k += 1;
     }
-    tape[at] = r[0];
-    tape[at + 1] = r[1];
-    tape[at + 2] = r[2];
-    tape[at + 3] = r[3];
-    tape[at + 4] = r[4];
-    tape[at + 5] = r[5];
-    tape[at + 6] = r[6];
-    tape[at + 7] = r[7];
 }
 
 // The array as a slice: its length is known by its type here.
@@ -243,6 +226,9 @@ fn take_byte(
     bench: Bench,
     x: u8,
 ) -> Bench {
+    if PIECES < bench.mode {
+        return take_piece(bench, x);
+    }
     if x == b'\n' {
         return end_line(path, line, store, bench);
     }
@@ -250,6 +236,40 @@ fn take_byte(
     let mut next = bench;
     next.held = held;
     next
+}
+
+fn size(mode: u8) -> usize {
+    if mode == LIST {
+        return 8;
+    }
+    16
+}
+
+// A byte of a record or an answer that stands by itself.
+fn take_piece(bench: Bench, x: u8) -> Bench {
+    let mut next = bench;
+    let at = bench.held % 16;
+    next.kept[at] = x;
+    if at + 1 < size(bench.mode) {
+        next.held = at + 1;
+        return next;
+    }
+    next.held = 0;
+    next.records = more(bench.records);
+    let kept = next.kept;
+    if print_piece(next.mode, next.records, kept) {
+        return next;
+    }
+    fail_output(next)
+}
+
+fn print_piece(mode: u8, number: u64, kept: [u8; 16]) -> bool {
+    if mode == LIST {
+        return sentences::asked(notation::sentence(kept), kept)
+            .put(b'\n')
+            .print();
+    }
+    print_answer(number, kept)
 }
 
 fn take_bytes(
@@ -304,6 +324,7 @@ fn start(mode: u8) -> Bench {
         board: Board::reset(),
         line: 0,
         held: 0,
+        kept: [0u8; 16],
         records: 0,
         refused: 0,
         bad: 0,
@@ -335,77 +356,103 @@ fn take_all(
 
 // A last line without a line feed may be half a line.
 fn end_text(path: &[u8], bench: Bench) -> Bench {
-    if bench.well {
-        if bench.held == 0 {
-            return bench;
-        }
-        let mut next = bench;
-        next.line = more(bench.line);
-        if 1000 < bench.held {
-            return tell_bad(path, next, 1001, notation::SHORTER);
-        }
-        return tell_bad(path, next, bench.held + 1, notation::LINE_FEED);
+    if !bench.well {
+        return bench;
     }
-    bench
+    if PIECES < bench.mode {
+        tell_cut(path, bench.held, bench.records);
+        return bench;
+    }
+    if bench.held == 0 {
+        return bench;
+    }
+    let mut next = bench;
+    next.line = more(bench.line);
+    if 1000 < bench.held {
+        return tell_bad(path, next, 1001, notation::SHORTER);
+    }
+    tell_bad(path, next, bench.held + 1, notation::LINE_FEED)
 }
 
-// Whether a text was read whole, is good, and has a record; says why not.
-fn is_good(path: &[u8], bench: Bench, done: &[u8]) -> bool {
+fn tell_cut(path: &[u8], held: usize, records: u64) {
+    if 0 < held {
+        tell(path, 0x17, held as u64, 0);
+        return;
+    }
+    if records == 0 {
+        tell(path, 0x16, 0, 0);
+    }
+}
+
+// Whether a text was read whole, is good, and has a record; says why not. `written` is 1 where the text was to be written, and not run.
+fn is_good(path: &[u8], bench: Bench, written: u8) -> bool {
     if !bench.well {
         return false;
     }
-    if 0 < bench.bad {
-        say(path);
-        say(b": bad lines: ");
-        io::print_decimal(STDERR_FILENO, bench.bad);
-        if 0 < bench.sent {
-            say(b"; the tape ends after record ");
-            io::print_decimal(STDERR_FILENO, bench.sent);
-            say(b"\n");
-            return false;
+    let sentence = fault(bench.records, bench.bad, bench.sent, written);
+    if sentence == 0 {
+        return true;
+    }
+    tell(path, sentence, bench.bad, bench.sent);
+    false
+}
+
+// The sentence for what is wrong with a text, 0 for nothing.
+fn fault(records: u64, bad: u64, sent: u64, written: u8) -> u8 {
+    if 0 < bad {
+        if 0 < sent {
+            return 0x12;
         }
-        say(b"; nothing was ");
-        say(done);
-        say(b"\n");
+        return 0x10 + written % 2;
+    }
+    if records == 0 {
+        return 0x13 + written % 2;
+    }
+    0
+}
+
+// Reads a whole text, and does what is left to do at its end; answers whether a lesson that was checked is good.
+fn take_text(mode: u8, fd: i32, path: &[u8]) -> bool {
+    let mut line = [0u8; 1000];
+    let mut store = [0u8; 65536];
+    let bench = take_all(mode, fd, path, &mut line, &mut store);
+    finish(path, bench, &store)
+}
+
+fn finish(path: &[u8], bench: Bench, store: &[u8; 65536]) -> bool {
+    if bench.mode == CHECK {
+        return is_good(path, bench, 0);
+    }
+    if bench.mode == ASSEMBLE {
+        if is_good(path, bench, 1) {
+            return write_rest(store, (bench.records % 8192 * 8) as usize);
+        }
         return false;
     }
-    if bench.records == 0 {
-        say(path);
-        say(b": there is no record in it; nothing was ");
-        say(done);
-        say(b"\n");
+    if bench.mode < LIST {
+        if bench.well {
+            return print_end(bench.records, bench.refused, store);
+        }
         return false;
     }
     true
 }
 
-// The lesson is read twice: once to see that each line is good, and then to run it.
-fn check_file(fd: i32, path: &[u8]) -> bool {
-    let mut line = [0u8; 1000];
-    let mut store = [0u8; 65536];
-    let bench = take_all(CHECK, fd, path, &mut line, &mut store);
-    is_good(path, bench, b"run")
-}
-
-fn run_file(mode: u8, fd: i32, path: &[u8]) {
-    let mut line = [0u8; 1000];
-    let mut memory = [0u8; 65536];
-    let bench = take_all(mode, fd, path, &mut line, &mut memory);
-    if bench.well {
-        print_end(bench, &memory);
+// What is left of a tape.
+fn write_rest(tape: &[u8; 65536], n: usize) -> bool {
+    if write_tape(tape, n) {
+        return true;
     }
+    tell_output();
+    false
 }
 
-fn print_end(bench: Bench, memory: &[u8; 65536]) {
-    let told = Text::new()
-        .say(b"records: ")
-        .decimal(bench.records)
-        .say(b", refused: ")
-        .decimal(bench.refused)
-        .put(b'\n');
+fn print_end(records: u64, refused: u64, memory: &[u8; 65536]) -> bool {
+    let told = sentences::message(0x20, records, refused).put(b'\n');
     if told.print() {
-        print_memory(memory);
+        return print_memory(memory);
     }
+    false
 }
 
 fn is_zero_row(memory: &[u8; 65536], at: usize) -> bool {
@@ -425,15 +472,12 @@ fn print_memory(memory: &[u8; 65536]) -> bool {
     let mut rows: u64 = 0;
     let mut k: usize = 0;
     while k < 4096 {
-        if !is_zero_row(memory, k * 16) {
-            rows = more(rows);
-            if rows == 1 {
-                io::write_all(STDOUT_FILENO, b"memory that changed:\n");
-            }
-            if rows <= 16 {
-                print_memory_row(memory, k * 16);
-            }
+        if is_zero_row(memory, k * 16) {
+            k += 1;
+            continue;
         }
+        rows = more(rows);
+        print_changed(memory, k * 16, rows);
         k += 1;
     }
     print_memory_end(rows)
@@ -441,23 +485,26 @@ fn print_memory(memory: &[u8; 65536]) -> bool {
 
 fn print_memory_end(rows: u64) -> bool {
     if rows == 0 {
-        return io::write_all(STDOUT_FILENO, b"memory: nothing changed\n");
+        return sentences::message(0x22, 0, 0).put(b'\n').print();
     }
     if 16 < rows {
-        return Text::new()
-            .say(b"  and ")
-            .decimal(rows - 16)
-            .say(b" rows more\n")
-            .print();
+        return sentences::message(0x23, rows - 16, 0).put(b'\n').print();
     }
     true
 }
 
+fn print_changed(memory: &[u8; 65536], at: usize, rows: u64) -> bool {
+    if 16 < rows {
+        return true;
+    }
+    if rows == 1 {
+        sentences::message(0x21, 0, 0).put(b'\n').print();
+    }
+    print_memory_row(memory, at)
+}
+
 fn print_memory_row(memory: &[u8; 65536], at: usize) -> bool {
-    let mut t = Text::new()
-        .say(b"  ")
-        .address((at % 65536) as u32)
-        .put(b' ');
+    let mut t = Text::new().pad(2).address((at % 65536) as u32).put(b' ');
     let mut shown = Text::new();
     let mut i = 0;
     while i < 16 {
@@ -467,12 +514,16 @@ fn print_memory_row(memory: &[u8; 65536], at: usize) -> bool {
         shown = put_shown(shown, x);
         i += 1;
     }
-    t.say(b"  ").part(shown, 0, shown.n).put(b'\n').print()
+    t.put(b' ')
+        .put(b' ')
+        .part(shown, 0, shown.n)
+        .put(b'\n')
+        .print()
 }
 
 fn put_changed(t: Text, x: u8) -> Text {
     if x == 0 {
-        return t.say(b" --");
+        return t.put(b' ').put(b'-').put(b'-');
     }
     t.put(b' ').hex(x)
 }
@@ -489,8 +540,7 @@ fn put_shown(t: Text, x: u8) -> Text {
 
 fn rewind(fd: i32, path: &[u8]) -> bool {
     if libc::lseek(fd, 0, libc::SEEK_SET) < 0 {
-        say(path);
-        say(b": not a file that can be read twice; nothing was run\n");
+        tell(path, 0x15, 0, 0);
         return false;
     }
     true
@@ -499,28 +549,29 @@ fn rewind(fd: i32, path: &[u8]) -> bool {
 fn print_title(path: &[u8]) -> bool {
     if io::write_all(STDOUT_FILENO, path) {
         if io::write_all(STDOUT_FILENO, b"\n") {
-            return text::print_heads();
+            return sentences::print_heads();
         }
         return false;
     }
     false
 }
 
+// The lesson is read twice: once to see that each line is good, and then to run it.
 fn take_file(mode: u8, fd: i32, path: &[u8]) {
     if !rewind(fd, path) {
         return;
     }
-    if !check_file(fd, path) {
+    if !take_text(CHECK, fd, path) {
         return;
     }
     if !rewind(fd, path) {
         return;
     }
     if !print_title(path) {
-        os::fail(b"lesson: standard output");
+        tell_output();
         return;
     }
-    run_file(mode, fd, path);
+    take_text(mode, fd, path);
 }
 
 fn open_file(mode: u8, path: &[u8]) {
@@ -533,159 +584,29 @@ fn open_file(mode: u8, path: &[u8]) {
     libc::close(fd);
 }
 
-// The notation on standard input, as a tape on standard output.
-fn assemble() {
-    let mut line = [0u8; 1000];
-    let mut tape = [0u8; 65536];
-    let bench = take_all(
-        ASSEMBLE,
-        STDIN_FILENO,
-        b"standard input",
-        &mut line,
-        &mut tape,
-    );
-    if !is_good(b"standard input", bench, b"written") {
-        return;
-    }
-    let left = (bench.records % 8192 * 8) as usize;
-    if !write_tape(&tape, left) {
-        os::fail(b"lesson: standard output");
-    }
-}
-
-// Records or answers under way, of 8 or 16 bytes.
-struct Sieve {
-    size: usize,
-    kept: [u8; 16],
-    held: usize,
-    count: u64,
-    more: bool,
-}
-
-fn sift_byte(sieve: Sieve, x: u8) -> Sieve {
-    let mut next = sieve;
-    let at = sieve.held % 16;
-    next.kept[at] = x;
-    if at + 1 < sieve.size {
-        next.held = at + 1;
-        return next;
-    }
-    next.held = 0;
-    next.count = more(sieve.count);
-    if print_piece(next) {
-        return next;
-    }
-    os::fail(b"lesson: standard output");
-    next.more = false;
-    next
-}
-
-fn print_piece(sieve: Sieve) -> bool {
-    let k = sieve.kept;
-    if sieve.size == 8 {
-        return notation::write([k[0], k[1], k[2], k[3], k[4], k[5], k[6], k[7]])
-            .put(b'\n')
-            .print();
-    }
-    print_answer(sieve.count, k)
-}
-
-fn sift_bytes(sieve: Sieve, lump: &[u8]) -> Sieve {
-    let mut next = sieve;
-    let mut i = 0;
-    while i < lump.len() {
-        next = sift_byte(next, lump[i]);
-        if !next.more {
-            return next;
-        }
-        i += 1;
-    }
-    next
-}
-
-fn sift_lump(sieve: Sieve) -> Sieve {
-    let mut lump = io::large_buffer();
-    let got = libc::read(STDIN_FILENO, &mut lump);
-    let mut next = sieve;
-    if got < 0 {
-        os::fail(b"lesson: standard input");
-        next.more = false;
-        return next;
-    }
-    if got == 0 {
-        next.more = false;
-        return report_cut(next);
-    }
-    let n = io::count(got, &lump);
-    sift_bytes(sieve, &lump[..n])
-}
-
-fn report_cut(sieve: Sieve) -> Sieve {
-    if sieve.held == 0 {
-        if sieve.count == 0 {
-            say(b"lesson: standard input is empty\n");
-        }
-        return sieve;
-    }
-    say(b"lesson: standard input ends inside a record or an answer; bytes left over: ");
-    io::print_decimal(STDERR_FILENO, sieve.held as u64);
-    say(b"\n");
-    sieve
-}
-
-fn sift(size: usize) {
-    let mut sieve = Sieve {
-        size: size,
-        kept: [0u8; 16],
-        held: 0,
-        count: 0,
-        more: true,
-    };
-    let mut turns = u64::MAX;
-    while turns > 0 {
-        sieve = sift_lump(sieve);
-        if !sieve.more {
-            return;
-        }
-        turns -= 1;
-    }
-}
-
-fn explain() {
-    if text::print_heads() {
-        sift(16);
-    }
-}
-
-fn is_same(a: &[u8], b: &[u8]) -> bool {
-    if a.len() != b.len() {
-        return false;
-    }
-    let mut i = 0;
-    while i < a.len() {
-        if a[i] != b[i] {
-            return false;
-        }
-        i += 1;
-    }
-    true
+// Records or answers on standard input, in words.
+fn sift(mode: u8) {
+    take_text(mode, STDIN_FILENO, b"lesson: standard input");
 }
 
 // One argument: a filter, or a file; answers how the files after it are shown.
 fn take_word(mode: u8, word: &[u8]) -> u8 {
-    if is_same(word, b"assemble") {
-        assemble();
+    let n = notation::which(b"assemble list explain pieces ", word, 0, word.len());
+    if n == 0 {
+        take_text(ASSEMBLE, STDIN_FILENO, b"standard input");
         return mode;
     }
-    if is_same(word, b"list") {
-        sift(8);
+    if n == 1 {
+        sift(LIST);
         return mode;
     }
-    if is_same(word, b"explain") {
-        explain();
+    if n == 2 {
+        if sentences::print_heads() {
+            sift(EXPLAIN);
+        }
         return mode;
     }
-    if is_same(word, b"pieces") {
+    if n == 3 {
         return PIECES;
     }
     open_file(mode, word);
@@ -705,13 +626,7 @@ fn take_argument(mode: u8, i: usize) -> u8 {
 fn main() {
     let words = os::arg_count();
     if words < 2 {
-        say(b"usage: lesson FILE..                        runs lessons\n");
-        say(b"       lesson assemble <LESSON >TAPE        the notation as a tape\n");
-        say(b"       lesson list <TAPE                    a tape in the notation\n");
-        say(b"       lesson explain <ANSWERS              answers in words\n");
-        say(
-            b"       lesson pieces FILE..                 a lesson's records and answers, one by one\n",
-        );
+        sentences::print_usage();
         return;
     }
     let mut mode = RUN;

@@ -1,6 +1,5 @@
 // The notation for tapes: a line read as a record, and a record written as a line.
 ghost use Prim.Native.Nat.{_<_};
-use crate::text::Text;
 
 // What a line comes to: nothing, a record, or what was expected at a column.
 pub struct Parsed {
@@ -50,7 +49,7 @@ impl Parsed {
     }
 }
 
-// What may be expected at a column.
+// What may be expected at a column, by the number of its sentence.
 const WORD: u8 = 0;
 
 const PORT: u8 = 1;
@@ -73,55 +72,25 @@ pub const SHORTER: u8 = 9;
 
 pub const LINE_FEED: u8 = 10;
 
-// The same in words.
-pub fn expected(t: Text, code: u8) -> Text {
-    match code {
-        0 => t.say(
-            b"expected reset, write, read, intp, gates, requests, acknowledge, advance, cycle, raw or a # comment",
-        ),
-        1 => t.say(b"expected a port, one or two hexadecimal digits"),
-        2 => t.say(b"expected the byte to write, one or two hexadecimal digits"),
-        3 => t.say(b"expected the levels, one or two hexadecimal digits"),
-        4 => t.say(b"expected the number of pulses, decimal, at most 4294967295"),
-        5 => t.say(
-            b"expected the device's byte, one or two hexadecimal digits, or the end of the line",
-        ),
-        6 => t.say(b"expected the word end, or the end of the line"),
-        7 => t.say(
-            b"expected one of the eight bytes of a raw record, one or two hexadecimal digits",
-        ),
-        8 => t.say(b"expected the end of the line, or a # comment"),
-        9 => t.say(b"expected the end of the line by here: a line has at most 1000 characters"),
-        _ => t.say(b"expected a line feed at the end of the last line; the file may be cut short"),
+// Whether a word ends at a byte, or where blanks are passed over, whether they do. A comment ends both.
+fn is_end_of(b: u8, word: bool) -> bool {
+    match b {
+        b' ' => word,
+        b'\t' => word,
+        b'\r' => word,
+        b'#' => true,
+        _ => !word,
     }
 }
 
-fn is_blank(b: u8) -> bool {
-    if b == b' ' {
-        return true;
-    }
-    if b == b'\t' {
-        return true;
-    }
-    b == b'\r'
-}
-
-// A word ends at a blank or at a comment.
-fn is_break(b: u8) -> bool {
-    if b == b'#' {
-        return true;
-    }
-    is_blank(b)
-}
-
-// The first place from `at` on that is not blank; n where there is none.
-fn skip_blanks(line: &[u8; 1000], n: usize, at: usize) -> usize {
+// Where the word that starts at `at` ends, or where the blanks there do; n where nothing else follows.
+fn skip(line: &[u8; 1000], n: usize, at: usize, word: bool) -> usize {
     let mut i = at;
     while i < 1000 {
         if n <= i {
             return n;
         }
-        if !is_blank(line[i]) {
+        if is_end_of(line[i], word) {
             return i;
         }
         i += 1;
@@ -129,48 +98,50 @@ fn skip_blanks(line: &[u8; 1000], n: usize, at: usize) -> usize {
     n
 }
 
-// Where the word that starts at `at` ends.
-fn word_end(line: &[u8; 1000], n: usize, at: usize) -> usize {
-    let mut i = at;
-    while i < 1000 {
-        if n <= i {
-            return n;
-        }
-        if is_break(line[i]) {
-            return i;
-        }
-        i += 1;
-    }
-    n
-}
-
-// Whether the word from start to end is w.
-fn is_word(line: &[u8; 1000], start: usize, end: usize, w: &[u8]) -> bool {
-    if end < start {
-        return false;
-    }
-    if end - start != w.len() {
-        return false;
-    }
-    if 1000 < end {
-        return false;
-    }
+// Which word of a list stands in s from start to end, counted from 0; how many there are where none does. In the list a space follows each.
+pub fn which(list: &[u8], s: &[u8], start: usize, end: usize) -> u8 {
+    let mut n: u8 = 0;
+    let mut at = start;
     let mut i = 0;
-    while i < w.len() {
-        let at = start + i;
-        if 999 < at {
-            return false;
-        }
-        if line[at] != w[i] {
-            return false;
-        }
+    while i < list.len() {
+        let c = list[i];
         i += 1;
+        if c == b' ' {
+            if at == end {
+                return n;
+            }
+            n = one_more(n);
+            at = start;
+            continue;
+        }
+        at = after(s, at, end, c);
     }
-    true
+    n
+}
+
+fn one_more(n: u8) -> u8 {
+    if n < 255 {
+        return n + 1;
+    }
+    n
+}
+
+// The place after `at` if the byte there is c; else one that no word ends at.
+fn after(s: &[u8], at: usize, end: usize, c: u8) -> usize {
+    if s.len() <= at {
+        return usize::MAX;
+    }
+    if end <= at {
+        return usize::MAX;
+    }
+    if s[at] == c {
+        return at + 1;
+    }
+    usize::MAX
 }
 
 // A hexadecimal digit's value, 16 for any other character.
-fn digit(b: u8) -> u8
+pub fn digit(b: u8) -> u8
     ensures { λ r. ⌜ r < 17 ⌝ }
 {
     if b < b'0' {
@@ -226,25 +197,25 @@ fn other_word(start: usize, end: usize) -> Word {
     }
 }
 
+fn byte_at(line: &[u8; 1000], i: usize) -> u8 {
+    if i < 1000 {
+        return line[i];
+    }
+    0
+}
+
 fn next_word(line: &[u8; 1000], n: usize, at: usize) -> Word {
-    let start = skip_blanks(line, n, at);
-    let end = word_end(line, n, start);
+    let start = skip(line, n, at, false);
+    let end = skip(line, n, start, true);
     if end <= start {
         return other_word(start, start);
     }
-    if 999 < start {
-        return other_word(start, end);
-    }
-    let first = digit(line[start]);
-    let length = end - start;
-    if length == 1 {
+    let first = digit(byte_at(line, start));
+    if end - start == 1 {
         return byte_word(start, end, 0, first);
     }
-    if length == 2 {
-        if start < 999 {
-            return byte_word(start, end, first, digit(line[start + 1]));
-        }
-        return other_word(start, end);
+    if end - start == 2 {
+        return byte_word(start, end, first, digit(byte_at(line, start + 1)));
     }
     other_word(start, end)
 }
@@ -261,34 +232,6 @@ fn close(line: &[u8; 1000], n: usize, at: usize, r: [u8; 8]) -> Parsed {
         return Parsed::record(r);
     }
     Parsed::bad(w.start, NOTHING)
-}
-
-fn parse_write(line: &[u8; 1000], n: usize, at: usize) -> Parsed {
-    let port = next_word(line, n, at);
-    if port.is_byte {
-        let data = next_word(line, n, port.end);
-        if data.is_byte {
-            return close(line, n, data.end, [1, port.byte, data.byte, 0, 0, 0, 0, 0]);
-        }
-        return Parsed::bad(data.start, DATA);
-    }
-    Parsed::bad(port.start, PORT)
-}
-
-fn parse_read(line: &[u8; 1000], n: usize, at: usize) -> Parsed {
-    let port = next_word(line, n, at);
-    if port.is_byte {
-        return close(line, n, port.end, [2, port.byte, 0, 0, 0, 0, 0, 0]);
-    }
-    Parsed::bad(port.start, PORT)
-}
-
-fn parse_lines(line: &[u8; 1000], n: usize, at: usize, group: u8) -> Parsed {
-    let levels = next_word(line, n, at);
-    if levels.is_byte {
-        return close(line, n, levels.end, [3, group, levels.byte, 0, 0, 0, 0, 0]);
-    }
-    Parsed::bad(levels.start, LEVELS)
 }
 
 // A decimal number that four bytes hold, or a number past them.
@@ -338,7 +281,7 @@ fn parse_cycle(line: &[u8; 1000], n: usize, at: usize) -> Parsed {
         if is_end(w) {
             return Parsed::record([6, 0, device.byte, 0, 0, 0, 0, 0]);
         }
-        if is_word(line, w.start, w.end, b"end") {
+        if verb(line, w.start, w.end) == THE_END {
             return close(line, n, w.end, [6, 1, device.byte, 0, 0, 0, 0, 0]);
         }
         return Parsed::bad(w.start, END);
@@ -346,16 +289,77 @@ fn parse_cycle(line: &[u8; 1000], n: usize, at: usize) -> Parsed {
     Parsed::bad(device.start, DEVICE)
 }
 
-fn parse_raw(line: &[u8; 1000], n: usize, at: usize) -> Parsed {
-    let mut r = [0u8; 8];
+// A line that is bytes after its first word: what its record starts with, which of its bytes follow, and what is expected where one is missing.
+struct Form {
+    op: u8,
+    group: u8,
+    from: usize,
+    to: usize,
+    expected: u8,
+}
+
+fn make_form(op: u8, group: u8, from: usize, to: usize, expected: u8) -> Form {
+    Form {
+        op: op,
+        group: group,
+        from: from,
+        to: to,
+        expected: expected,
+    }
+}
+
+// The words that a line can have, by number.
+fn verb(line: &[u8], start: usize, end: usize) -> u8 {
+    which(
+        b"write read intp gates requests reset acknowledge raw advance cycle end ",
+        line,
+        start,
+        end,
+    )
+}
+
+const ADVANCE: u8 = 8;
+
+const CYCLE: u8 = 9;
+
+const THE_END: u8 = 10;
+
+// The form of the verbs before these.
+fn form_of(verb: u8) -> Form {
+    match verb {
+        0 => make_form(1, 0, 1, 3, PORT),
+        1 => make_form(2, 0, 1, 2, PORT),
+        2 => make_form(3, 0, 2, 3, LEVELS),
+        3 => make_form(3, 1, 2, 3, LEVELS),
+        4 => make_form(3, 2, 2, 3, LEVELS),
+        5 => make_form(0, 0, 0, 0, NOTHING),
+        6 => make_form(4, 0, 0, 0, NOTHING),
+        _ => make_form(0, 0, 0, 8, RAW),
+    }
+}
+
+fn missing(expected: u8, k: usize) -> u8 {
+    if expected == PORT {
+        if k == 2 {
+            return DATA;
+        }
+        return PORT;
+    }
+    expected
+}
+
+fn parse_bytes(line: &[u8; 1000], n: usize, at: usize, f: Form) -> Parsed {
+    let mut r = [f.op, f.group, 0, 0, 0, 0, 0, 0];
     let mut from = at;
-    let mut k = 0;
-    while k < 8 {
+    let to = f.to;
+    let mut k = f.from;
+    while k < to {
         let w = next_word(line, n, from);
         if !w.is_byte {
-            return Parsed::bad(w.start, RAW);
+            return Parsed::bad(w.start, missing(f.expected, k));
         }
-        r[k] = w.byte;
+        let i = k % 8;
+        r[i] = w.byte;
         from = w.end;
         k += 1;
     }
@@ -365,164 +369,70 @@ fn parse_raw(line: &[u8; 1000], n: usize, at: usize) -> Parsed {
 // A line of n bytes.
 pub fn parse(line: &[u8; 1000], n: usize) -> Parsed {
     let w = next_word(line, n, 0);
-    let start = w.start;
-    let end = w.end;
     if is_end(w) {
         return Parsed::empty();
     }
-    if is_word(line, start, end, b"write") {
-        return parse_write(line, n, end);
+    let v = verb(line, w.start, w.end);
+    if v < ADVANCE {
+        return parse_bytes(line, n, w.end, form_of(v));
     }
-    if is_word(line, start, end, b"read") {
-        return parse_read(line, n, end);
+    if v == ADVANCE {
+        return parse_advance(line, n, w.end);
     }
-    if is_word(line, start, end, b"advance") {
-        return parse_advance(line, n, end);
+    if v == CYCLE {
+        return parse_cycle(line, n, w.end);
     }
-    if is_word(line, start, end, b"cycle") {
-        return parse_cycle(line, n, end);
-    }
-    if is_word(line, start, end, b"acknowledge") {
-        return close(line, n, end, [4, 0, 0, 0, 0, 0, 0, 0]);
-    }
-    parse_other(line, n, start, end)
+    Parsed::bad(w.start, WORD)
 }
 
-fn parse_other(line: &[u8; 1000], n: usize, start: usize, end: usize) -> Parsed {
-    if is_word(line, start, end, b"intp") {
-        return parse_lines(line, n, end, 0);
-    }
-    if is_word(line, start, end, b"gates") {
-        return parse_lines(line, n, end, 1);
-    }
-    if is_word(line, start, end, b"requests") {
-        return parse_lines(line, n, end, 2);
-    }
-    if is_word(line, start, end, b"reset") {
-        return close(line, n, end, [0, 0, 0, 0, 0, 0, 0, 0]);
-    }
-    if is_word(line, start, end, b"raw") {
-        return parse_raw(line, n, end);
-    }
-    Parsed::bad(start, WORD)
+// Bytes 3 to 7 of a record are zero; it stands first among the facts.
+pub fn is_zero_later(r: [u8; 16]) -> bool {
+    r[3] | r[4] | r[5] | r[6] | r[7] == 0
 }
 
-// Bytes k to 7 are zero.
-pub fn is_zero_from(r: [u8; 8], k: usize) -> bool {
-    let mut i = k;
-    while i < 8 {
-        if r[i] != 0 {
-            return false;
-        }
-        i += 1;
+// The sentence of the line that stands for a record: whatever has no line of its own is raw.
+pub fn sentence(r: [u8; 16]) -> u8 {
+    if r[0] == 5 {
+        return match r[1] | r[2] | r[3] {
+            0 => 0x09,
+            _ => 0x00,
+        };
     }
-    true
+    if is_zero_later(r) {
+        return short_sentence(r[0], r[1], r[2]);
+    }
+    0x00
 }
 
-fn wide(x: u8) -> u64
-    ensures { λ r. ⌜ r < 256 ⌝ }
-{
-    x as u64
-}
-
-// The pulses of an advance, little end first.
-fn pulses(r: [u8; 8]) -> u64 {
-    wide(r[4]) + wide(r[5]) * 256 + wide(r[6]) * 65536 + wide(r[7]) * 16777216
-}
-
-fn raw(r: [u8; 8]) -> Text {
-    Text::new()
-        .say(b"raw ")
-        .hex(r[0])
-        .put(b' ')
-        .hex(r[1])
-        .put(b' ')
-        .hex(r[2])
-        .put(b' ')
-        .hex(r[3])
-        .put(b' ')
-        .hex(r[4])
-        .put(b' ')
-        .hex(r[5])
-        .put(b' ')
-        .hex(r[6])
-        .put(b' ')
-        .hex(r[7])
-}
-
-fn lines(r: [u8; 8]) -> Text {
-    let group = r[1];
-    if group == 0 {
-        return Text::new().say(b"intp ").hex(r[2]);
+fn short_sentence(op: u8, x: u8, y: u8) -> u8 {
+    match op {
+        0 => match x | y {
+            0 => 0x0a,
+            _ => 0x00,
+        },
+        1 => 0x01,
+        2 => match y {
+            0 => 0x02,
+            _ => 0x00,
+        },
+        3 => match x {
+            0 => 0x03,
+            1 => 0x04,
+            2 => 0x05,
+            _ => 0x00,
+        },
+        4 => match x | y {
+            0 => 0x0b,
+            _ => 0x00,
+        },
+        6 => match x {
+            0 => match y {
+                0 => 0x06,
+                _ => 0x07,
+            },
+            1 => 0x08,
+            _ => 0x00,
+        },
+        _ => 0x00,
     }
-    if group == 1 {
-        return Text::new().say(b"gates ").hex(r[2]);
-    }
-    if group == 2 {
-        return Text::new().say(b"requests ").hex(r[2]);
-    }
-    raw(r)
-}
-
-fn cycle(r: [u8; 8]) -> Text {
-    if r[1] == 1 {
-        return Text::new().say(b"cycle ").hex(r[2]).say(b" end");
-    }
-    if r[1] != 0 {
-        return raw(r);
-    }
-    if r[2] == 0 {
-        return Text::new().say(b"cycle");
-    }
-    Text::new().say(b"cycle ").hex(r[2])
-}
-
-// Bytes 1 to 3 are zero.
-fn is_zero_to_3(r: [u8; 8]) -> bool {
-    if r[1] != 0 {
-        return false;
-    }
-    if r[2] != 0 {
-        return false;
-    }
-    r[3] == 0
-}
-
-// A record as the line that stands for it: whatever has no line of its own is raw.
-pub fn write(r: [u8; 8]) -> Text {
-    let op = r[0];
-    if op == 5 {
-        if is_zero_to_3(r) {
-            return Text::new().say(b"advance ").decimal(pulses(r));
-        }
-        return raw(r);
-    }
-    if !is_zero_from(r, 3) {
-        return raw(r);
-    }
-    if op == 1 {
-        return Text::new().say(b"write ").hex(r[1]).put(b' ').hex(r[2]);
-    }
-    if op == 3 {
-        return lines(r);
-    }
-    if op == 6 {
-        return cycle(r);
-    }
-    if r[2] != 0 {
-        return raw(r);
-    }
-    if op == 2 {
-        return Text::new().say(b"read ").hex(r[1]);
-    }
-    if r[1] != 0 {
-        return raw(r);
-    }
-    if op == 0 {
-        return Text::new().say(b"reset");
-    }
-    if op == 4 {
-        return Text::new().say(b"acknowledge");
-    }
-    raw(r)
 }

@@ -9,7 +9,7 @@ pub struct Text {
 }
 
 // The character of a hexadecimal digit.
-fn glyph(d: u8) -> u8 {
+pub fn glyph(d: u8) -> u8 {
     if d < 10 {
         return 48 + d;
     }
@@ -17,6 +17,22 @@ fn glyph(d: u8) -> u8 {
         return 55 + d;
     }
     b'?'
+}
+
+fn spaces(x: u64) -> usize {
+    if x < 10 {
+        return 4;
+    }
+    if x < 100 {
+        return 3;
+    }
+    if x < 1000 {
+        return 2;
+    }
+    if x < 10000 {
+        return 1;
+    }
+    0
 }
 
 impl Text {
@@ -67,20 +83,8 @@ impl Text {
     }
 
     // A number that ends in column 5, as line numbers do.
-    pub fn number(self, x: u64) -> Text {
-        if x < 10 {
-            return self.say(b"    ").decimal(x);
-        }
-        if x < 100 {
-            return self.say(b"   ").decimal(x);
-        }
-        if x < 1000 {
-            return self.say(b"  ").decimal(x);
-        }
-        if x < 10000 {
-            return self.say(b" ").decimal(x);
-        }
-        self.decimal(x)
+    pub fn number(x: u64) -> Text {
+        Text::new().pad(spaces(x)).decimal(x)
     }
 
     // Spaces up to a column.
@@ -138,7 +142,8 @@ impl Text {
         self.level(x, 0)
             .level(x, 1)
             .level(x, 2)
-            .say(b"  ")
+            .put(b' ')
+            .put(b' ')
             .level(x, 3)
     }
 
@@ -218,8 +223,7 @@ pub fn write_part(fd: i32, b: &[u8], n: usize) -> bool {
 pub fn print_row(number: u64, asked: Text, answer: Text, levels: u8) -> bool {
     let a = asked.break_at(0, 30);
     let b = answer.break_at(0, 34);
-    let row = Text::new()
-        .number(number)
+    let row = Text::number(number)
         .put(b' ')
         .part(asked, 0, a)
         .put(b' ')
@@ -269,11 +273,4 @@ fn print_rest(asked: Text, from: usize, answer: Text, start: usize) -> bool {
         turns += 1;
     }
     true
-}
-
-pub fn print_heads() -> bool {
-    io::write_all(
-        STDOUT_FILENO,
-        b" line asked                          answer                             OUT INT\n",
-    )
 }
