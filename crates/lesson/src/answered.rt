@@ -103,29 +103,29 @@ fn refusal(board: Board, r: [u8; 8], status: u8) -> Text {
 fn reason(status: u8, r: [u8; 16], stage: u8) -> u8 {
     match status {
         1 => 0x10,
-        2 => malformed(r),
+        2 => malformed(r[0], r[1], r[2], notation::is_zero_later(r), r[6] | r[7]),
         3 => early(r[0], r[1], unready(stage)),
         4 => unbuilt(r[1], r[2]),
         _ => 0x60,
     }
 }
 
-// Status 2: the record by itself.
-fn malformed(r: [u8; 16]) -> u8 {
-    match r[0] {
+// Status 2: the record by itself; `zero` says that bytes 3 to 7 are.
+fn malformed(op: u8, x: u8, y: u8, zero: bool, pulses: u8) -> u8 {
+    match op {
         0 => 0x20,
-        1 => closed_port(r[1], notation::is_zero_later(r), 0x21),
-        2 => match r[2] {
-            0 => closed_port(r[1], notation::is_zero_later(r), 0x22),
+        1 => closed_port(x, zero, 0x21),
+        2 => match y {
+            0 => closed_port(x, zero, 0x22),
             _ => 0x22,
         },
-        3 => no_line(r[1], notation::is_zero_later(r)),
+        3 => no_line(x, zero),
         4 => 0x24,
-        5 => match r[6] | r[7] {
+        5 => match pulses {
             0 => 0x26,
             _ => 0x25,
         },
-        6 => match r[1] / 2 {
+        6 => match x / 2 {
             0 => 0x28,
             _ => 0x27,
         },

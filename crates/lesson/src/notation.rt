@@ -168,6 +168,7 @@ pub fn digit(b: u8) -> u8
 // A word of the line: where it stands, and whether it is a byte in one or two hexadecimal digits.
 struct Word {
     start: usize,
+    // the same where the line has ended, or only a comment is left
     end: usize,
     is_byte: bool,
     byte: u8,
@@ -220,15 +221,10 @@ fn next_word(line: &[u8; 1000], n: usize, at: usize) -> Word {
     other_word(start, end)
 }
 
-// Whether the line has ended, or only a comment is left.
-fn is_end(w: Word) -> bool {
-    w.start == w.end
-}
-
 // The record, if nothing else stands on the line.
 fn close(line: &[u8; 1000], n: usize, at: usize, r: [u8; 8]) -> Parsed {
     let w = next_word(line, n, at);
-    if is_end(w) {
+    if w.start == w.end {
         return Parsed::record(r);
     }
     Parsed::bad(w.start, NOTHING)
@@ -257,7 +253,7 @@ fn decimal(line: &[u8; 1000], start: usize, end: usize) -> u64 {
 
 fn parse_advance(line: &[u8; 1000], n: usize, at: usize) -> Parsed {
     let w = next_word(line, n, at);
-    if is_end(w) {
+    if w.start == w.end {
         return Parsed::bad(w.start, PULSES);
     }
     let v = decimal(line, w.start, w.end);
@@ -273,12 +269,12 @@ fn parse_advance(line: &[u8; 1000], n: usize, at: usize) -> Parsed {
 
 fn parse_cycle(line: &[u8; 1000], n: usize, at: usize) -> Parsed {
     let device = next_word(line, n, at);
-    if is_end(device) {
+    if device.start == device.end {
         return Parsed::record([6, 0, 0, 0, 0, 0, 0, 0]);
     }
     if device.is_byte {
         let w = next_word(line, n, device.end);
-        if is_end(w) {
+        if w.start == w.end {
             return Parsed::record([6, 0, device.byte, 0, 0, 0, 0, 0]);
         }
         if verb(line, w.start, w.end) == THE_END {
@@ -369,7 +365,7 @@ fn parse_bytes(line: &[u8; 1000], n: usize, at: usize, f: Form) -> Parsed {
 // A line of n bytes.
 pub fn parse(line: &[u8; 1000], n: usize) -> Parsed {
     let w = next_word(line, n, 0);
-    if is_end(w) {
+    if w.start == w.end {
         return Parsed::empty();
     }
     let v = verb(line, w.start, w.end);

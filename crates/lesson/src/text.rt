@@ -139,19 +139,12 @@ impl Text {
 
     // OUT0 to OUT2 and INT, as an answer's byte 3 has them.
     pub fn levels(self, x: u8) -> Text {
-        self.level(x, 0)
-            .level(x, 1)
-            .level(x, 2)
+        self.put(b'0' + x % 2)
+            .put(b'0' + x / 2 % 2)
+            .put(b'0' + x / 4 % 2)
             .put(b' ')
             .put(b' ')
-            .level(x, 3)
-    }
-
-    fn level(self, x: u8, n: u8) -> Text {
-        if bits::bit(x, n) {
-            return self.put(b'1');
-        }
-        self.put(b'0')
+            .put(b'0' + x / 8 % 2)
     }
 
     fn is_space(self, i: usize) -> bool {
