@@ -7,19 +7,15 @@ use Rattle.lesson.proofs.text.write_part.Reads as reads
 use Rattle.lesson.proofs.text.write_part.Lts as lts
 use Rattle.io.proofs.write_all.Reads as write-all-reads
 
--- src/text.rt:209:9
 returns : tie.Need-returns
 returns c = search needs
 
--- src/text.rt:211:23
 slice-aggregate-write-all : tie.Need-slice-aggregate-write-all
 slice-aggregate-write-all c = sym (length-take-le _ _ (c .before .if1 .left))
 
--- src/text.rt:211:5
 write-all-requires : tie.Need-write-all-requires
 write-all-requires c κs = search needs
 
--- src/text.rt:207:1
 returns-2 : tie.Need-returns-2
 returns-2 c = search needs
 

@@ -12,35 +12,27 @@ Inv-loop from to other t₀ i₀ t i = Unit {0}
 abbrev μ-loop : tie.MeasureT-loop
 μ-loop from to other t₀ i₀ t i = to - i
 
--- src/text.rt:104:9
 loop-holds : tie.Need-loop-holds Inv-loop μ-loop
 loop-holds c = search needs
 
--- src/text.rt:106:17
 returns : tie.Need-returns Inv-loop μ-loop
 returns c = search needs
 
--- src/text.rt:108:23
 element-copy-out-put : tie.Need-element-copy-out-put Inv-loop μ-loop
 element-copy-out-put c = search needs
 
--- src/text.rt:108:13
 put-requires : tie.Need-put-requires Inv-loop μ-loop
 put-requires c κs = search needs
 
--- src/text.rt:109:13
 add-i : tie.Need-add-i Inv-loop μ-loop
 add-i c = search needs
 
--- src/text.rt:104:9
 loop-less : tie.Need-loop-less Inv-loop μ-loop
 loop-less c = search needs
 
--- src/text.rt:104:9
 loop-again : tie.Need-loop-again Inv-loop μ-loop
 loop-again c = search needs
 
--- src/text.rt:101:5
 returns-2 : tie.Need-returns-2 Inv-loop μ-loop
 returns-2 c = search needs
 

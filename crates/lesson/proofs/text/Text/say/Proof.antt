@@ -13,31 +13,24 @@ Inv-loop s t₀ i₀ t i = Unit {0}
 abbrev μ-loop : tie.MeasureT-loop
 μ-loop s t₀ i₀ t i = length s - i
 
--- src/text.rt:43:9
 loop-holds : tie.Need-loop-holds Inv-loop μ-loop
 loop-holds c = search needs
 
--- src/text.rt:44:23
 shared-slice-read-put : tie.Need-shared-slice-read-put Inv-loop μ-loop
 shared-slice-read-put c = search needs
 
--- src/text.rt:44:13
 put-requires : tie.Need-put-requires Inv-loop μ-loop
 put-requires c κs = search needs
 
--- src/text.rt:45:13
 add-i : tie.Need-add-i Inv-loop μ-loop
 add-i c = search needs
 
--- src/text.rt:43:9
 loop-less : tie.Need-loop-less Inv-loop μ-loop
 loop-less c = search needs
 
--- src/text.rt:43:9
 loop-again : tie.Need-loop-again Inv-loop μ-loop
 loop-again c = search needs
 
--- src/text.rt:40:5
 returns : tie.Need-returns Inv-loop μ-loop
 returns c = search needs
 
