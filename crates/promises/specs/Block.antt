@@ -22,13 +22,11 @@ use Rattle.dma.specs.Fields.{none, chan, served}
 use Rattle.dma.specs.Cycle.{movedOf, unitBy, unitOf}
 use Rattle.dma.specs.Cycle as DmaCycle
 use Rattle.board.specs.declared.Board.{Board}
-use Rattle.board.specs.declared.Outcome.{Outcome}
+use Rattle.board.specs.Operations.{Outcome, refused, cycleOf}
 use Rattle.board.specs.Wiring.{levelsOf}
-use Rattle.board.specs.Operations.{refused, cycleOf}
 use Rattle.board.specs.Step.{executeOf, blocked, outcomeOf, answeredOf, stepOf}
-use Rattle.intake.specs.Records.{recordAt}
-use Rattle.intake.specs.Feed.{Run, after}
-use Rattle.promises.specs.Decodes.{Decodes, malformed, reset, write, read, intp, gates, requests, acknowledge, advance, cycle, decodes}
+use Rattle.board.specs.Records.{recordAt, Run, after}
+use Rattle.tape.proofs.Decodes.{Decodes, malformed, reset, write, read, intp, gates, requests, acknowledge, advance, cycle, decodes}
 use Rattle.promises.specs.Logic.{both-left, both-right}
 use Rattle.promises.specs.Table.{formed}
 use Rattle.promises.specs.Statuses.{asked, formed-asked}

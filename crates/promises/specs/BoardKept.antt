@@ -18,16 +18,15 @@ use Rattle.dma.specs.declared.Dma.{Dma}
 use Rattle.dma.specs.Fields.{chan}
 use Rattle.dma.specs.Registers as DmaRegisters
 use Rattle.board.specs.declared.Board.{Board}
-use Rattle.board.specs.declared.Outcome.{Outcome}
+use Rattle.board.specs.Operations.{Outcome, a0, timerWritten, timerShown, dmaWritten, dmaShown, writeOf, readOf, cycleOf}
 use Rattle.board.specs.Wiring.{freshOf, lines, linesAt, rewired}
-use Rattle.board.specs.Operations.{a0, timerWritten, timerShown, dmaWritten, dmaShown, writeOf, readOf, cycleOf}
 use Rattle.board.specs.Advance.{tickOf, advancedOf, advanceOf}
 use Rattle.board.specs.Step.{executeOf, blocked, outcomeOf, answeredOf, stepOf}
 use Rattle.intake.specs.declared.Fed.{Fed}
-use Rattle.intake.specs.Records.{recordAt}
+use Rattle.board.specs.Records.{recordAt, after}
 use Rattle.intake.specs.Ranges.{channelGood, channelsGood, dmaGood}
-use Rattle.intake.specs.Feed.{after, bytesOf, countOf, taken, fedOf}
-use Rattle.promises.specs.Decodes.{either, Decodes, malformed, reset, write, read, intp, gates, requests, acknowledge, advance, cycle, decodes}
+use Rattle.intake.specs.Feed.{bytesOf, countOf, taken, fedOf}
+use Rattle.tape.proofs.Decodes.{either, Decodes, malformed, reset, write, read, intp, gates, requests, acknowledge, advance, cycle, decodes}
 use Rattle.promises.specs.Words.{Reached, unfed, fed}
 use Rattle.promises.specs.Sound.{Good, Sound}
 use Rattle.promises.specs.IcuKept as the-icu

@@ -11,9 +11,9 @@ use borrow.Author.Tests.{leb-true}
 use Rattle.bits.specs.Choice.{if_then_else_, _and_}
 use Rattle.board.specs.declared.Board.{Board}
 use Rattle.board.specs.Step.{stepOf}
-use Rattle.intake.specs.Records.{recordAt}
+use Rattle.board.specs.Records.{recordAt, Run, after}
 use Rattle.intake.specs.Ranges.{inRange}
-use Rattle.intake.specs.Feed.{Run, after, bytesOf, countOf, taken, refused, done, fedOf, fedMemory, fedAnswers}
+use Rattle.intake.specs.Feed.{bytesOf, countOf, taken, refused, done, fedOf, fedMemory, fedAnswers}
 use Rattle.promises.specs.Logic.{both-right}
 use Rattle.promises.specs.Words.{answerAt}
 use Rattle.promises.specs.Runs.{at-before, answered}

@@ -17,7 +17,7 @@ use Rattle.timer.specs.declared.Got.{Got}
 use Rattle.timer.specs.Ports.{Answer, SC, RWM, CM, BCD, moded, modeSet, modeWord, latchWord, controlOf, completed, countOf, begun, writeOf, readOf}
 use Rattle.timer.specs.Pulse.{gateOf}
 use Rattle.timer.specs.Timer.{blank, at, wroteBy, gotBy, controlsOf, writesOf, readsOf, three, gatesOf}
-use Rattle.promises.specs.Decodes.{either}
+use Rattle.tape.proofs.Decodes.{either}
 
 -- Where a writing stands: the first byte of two, kept apart, and the last complete count with what it waits for.
 pub record Writing : Type 0 where

@@ -15,9 +15,9 @@ use Rattle.tape.specs.Records.{byte}
 use Rattle.board.specs.declared.Board.{Board}
 use Rattle.board.specs.Wiring.{levelsOf}
 use Rattle.board.specs.Step.{stepOf, stepMemory}
-use Rattle.intake.specs.Records.{recordAt}
+use Rattle.board.specs.Records.{recordAt, after}
 use Rattle.intake.specs.Ranges.{inRange}
-use Rattle.intake.specs.Feed.{after, bytesOf, countOf, taken, fedOf, fedMemory, fedAnswers}
+use Rattle.intake.specs.Feed.{bytesOf, countOf, taken, fedOf, fedMemory, fedAnswers}
 use Rattle.promises.specs.Table.{formed, held, outOfTurn, notBuilt, intLow, countsOne}
 use Rattle.promises.specs.Words.{answerAt}
 use Rattle.promises.specs.Statuses.{status-due}

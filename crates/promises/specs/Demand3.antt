@@ -13,7 +13,7 @@ use Rattle.dma.specs.Fields.{chan}
 use Rattle.dma.specs.Cycle.{down, auto, writes}
 use Rattle.board.specs.declared.Board.{Board}
 use Rattle.intake.specs.Ranges.{inRange}
-use Rattle.intake.specs.Feed.{after}
+use Rattle.board.specs.Records.{after}
 use Rattle.promises.specs.Words.{answersIn, unitsOf, lastAt, placeOf, mayWrite, Calm, Reached, Further, Typed}
 use Rattle.promises.specs.Sound.{Sound}
 use Rattle.promises.specs.Seen.{Trace}

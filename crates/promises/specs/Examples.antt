@@ -5,7 +5,7 @@ use mathlib.Core.Path.{_≡_, refl}
 use mathlib.Core.List.{List, [], _∷_, _++_, map}
 use lib.ListN.{length, drop, replicate}
 use Rattle.board.specs.Wiring.{freshOf}
-use Rattle.intake.specs.Feed.{after}
+use Rattle.board.specs.Records.{after}
 use Rattle.promises.specs.Opened.{rules}
 
 -- The records that the examples use. Numbers are decimal here; the comments have them as the sheets do.

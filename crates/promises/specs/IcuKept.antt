@@ -16,7 +16,7 @@ use Rattle.icu.specs.Words.{ready, lev, i4, resetOf, iw1, laterWord, setsExcept
 use Rattle.icu.specs.Requests.{askedOf, outranksAll, intOf, linesOf}
 use Rattle.icu.specs.Service.{takes, servedOf, acknowledgeOf, readOf}
 use Rattle.intake.specs.Ranges.{iw1Good, icuGood}
-use Rattle.promises.specs.Decodes.{either}
+use Rattle.tape.proofs.Decodes.{either}
 use Rattle.promises.specs.Logic.{both-left, both-right}
 
 pub record Fine (c : Icu) : Type 0 where

@@ -1,4 +1,3 @@
-pub mod Decodes
 pub mod Logic
 pub mod Words
 pub mod Sound

@@ -30,12 +30,11 @@ use Rattle.timer.specs.Timer as Timers
 use Rattle.timer.specs.Timer.{at, writesOf, readsOf}
 use Rattle.dma.specs.Registers as DmaRegisters
 use Rattle.board.specs.declared.Board.{Board}
-use Rattle.board.specs.declared.Outcome.{Outcome}
+use Rattle.board.specs.Operations.{Outcome, refused, timerWritten, timerShown, dmaWritten, dmaShown, writeOf, readOf, cycleOf}
 use Rattle.board.specs.Wiring.{icu-is, lines, rewired}
-use Rattle.board.specs.Operations.{refused, timerWritten, timerShown, dmaWritten, dmaShown, writeOf, readOf, cycleOf}
 use Rattle.board.specs.Advance.{tickOf, advancedOf, advanceOf}
 use Rattle.board.specs.Step.{executeOf, blocked, outcomeOf, answeredOf, stepOf}
-use Rattle.promises.specs.Decodes.{either, Decodes, malformed, reset, write, read, intp, gates, requests, acknowledge, advance, cycle, decodes}
+use Rattle.tape.proofs.Decodes.{either, Decodes, malformed, reset, write, read, intp, gates, requests, acknowledge, advance, cycle, decodes}
 use Rattle.promises.specs.Counters.{valueOf, writes-value, reads-value, gates-value}
 use Rattle.promises.specs.Finish.{Highest, highest-is}
 

@@ -21,12 +21,11 @@ use Rattle.icu.specs.Requests.{intOf}
 use Rattle.timer.specs.Timer.{writesOf, readsOf}
 use Rattle.dma.specs.Registers as DmaRegisters
 use Rattle.board.specs.declared.Board.{Board}
-use Rattle.board.specs.declared.Outcome.{Outcome}
+use Rattle.board.specs.Operations.{Outcome, a0, icuTold, icuWritten, icuShown, acknowledged, refused, timerWritten, timerShown, dmaWritten, dmaShown, writeOf, readOf, cycleOf}
 use Rattle.board.specs.Wiring.{levelsOf, lines}
-use Rattle.board.specs.Operations.{a0, icuTold, icuWritten, icuShown, acknowledged, refused, timerWritten, timerShown, dmaWritten, dmaShown, writeOf, readOf, cycleOf}
 use Rattle.board.specs.Advance.{advanceOf}
 use Rattle.board.specs.Step.{executeOf, memoryAfter, blocked, outcomeOf, memoryOf, answeredOf, stepOf, stepMemory}
-use Rattle.promises.specs.Decodes.{either}
+use Rattle.tape.proofs.Decodes.{either}
 
 no : {A : Type 0} → true ≡ false → A
 no h = absurd (true≢false h)

@@ -10,8 +10,7 @@ use borrow.Author.Tests.{eqb-true, eq-eqb, ltb-true, ltb-false, le-leb, lt-leb}
 use Rattle.bits.specs.Choice.{if_then_else_, _and_}
 use Rattle.board.specs.declared.Board.{Board}
 use Rattle.board.specs.Step.{stepOf}
-use Rattle.intake.specs.Records.{recordAt}
-use Rattle.intake.specs.Feed.{after}
+use Rattle.board.specs.Records.{recordAt, after}
 use Rattle.promises.specs.Words.{answerAt}
 use Rattle.promises.specs.Steps.{answer-length}
 use Rattle.promises.specs.Runs.{at-before, at-last, answered}

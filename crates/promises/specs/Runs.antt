@@ -16,10 +16,10 @@ use Rattle.board.specs.declared.Board.{Board}
 use Rattle.board.specs.Wiring.{freshOf}
 use Rattle.board.specs.Step.{stepOf, stepMemory}
 use Rattle.intake.specs.declared.Fed.{Fed}
-use Rattle.intake.specs.Records.{recordAt}
+use Rattle.board.specs.Records.{recordAt, Run, after}
 use Rattle.intake.specs.Ranges.{icuGood, timerGood, channelGood, channelsGood, dmaGood, inRange}
-use Rattle.intake.specs.Feed.{Run, after, bytesOf, countOf, taken, fedOf, fedMemory, fedAnswers}
-use Rattle.promises.specs.Decodes.{either}
+use Rattle.intake.specs.Feed.{bytesOf, countOf, taken, fedOf, fedMemory, fedAnswers}
+use Rattle.tape.proofs.Decodes.{either}
 use Rattle.promises.specs.Logic.{both-left, both-right}
 use Rattle.promises.specs.Words.{answerAt, answersIn, Calm, Reached, unfed, fed, Further, none, call, Typed}
 use Rattle.promises.specs.Sound.{Good, Sound, none-good, reset-sound}

@@ -18,7 +18,7 @@ use Rattle.dma.specs.declared.Got.{Got}
 use Rattle.dma.specs.Fields.{none, chan, selected, served, masked-is, requests-are}
 use Rattle.dma.specs.Registers.{unset, chosen, resetOf, requestedOf, unbuiltMode, replacedOf, initializedOf, selectedOf, loadedOf, controlledOf, modedOf, maskedBy, writeOf, readOf}
 use Rattle.dma.specs.Cycle.{down, auto, stepped, movedBy, movedOf, ready, channelAt, winnerFrom, winner, firstAfter, lastOf, stopsOf, releases, nothingOf, grantedOf, releasedOf, unitOf, cycleBy, cycleOf}
-use Rattle.promises.specs.Decodes.{either}
+use Rattle.tape.proofs.Decodes.{either}
 
 pub record Good (c : Channel) : Type 0 where
   pub address : c .current .address < 16777216

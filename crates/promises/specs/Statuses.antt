@@ -34,12 +34,11 @@ use Rattle.dma.specs.Fields.{requests-are}
 use Rattle.dma.specs.Registers as DmaRegisters
 use Rattle.dma.specs.Registers.{unbuiltMode}
 use Rattle.board.specs.declared.Board.{Board}
-use Rattle.board.specs.declared.Outcome.{Outcome}
+use Rattle.board.specs.Operations.{Outcome, a0, icuTold, icuWritten, icuShown, done, telling, refused, timerWritten, timerShown, dmaWritten, dmaShown, writeOf, readOf, cycleOf}
 use Rattle.board.specs.Wiring.{lines}
-use Rattle.board.specs.Operations.{a0, icuTold, icuWritten, icuShown, done, telling, refused, timerWritten, timerShown, dmaWritten, dmaShown, writeOf, readOf, cycleOf}
 use Rattle.board.specs.Advance.{advanceOf}
 use Rattle.board.specs.Step.{executeOf, blocked, outcomeOf, answeredOf, stepOf}
-use Rattle.promises.specs.Decodes.{either, Decodes, malformed, reset, write, read, intp, gates, requests, acknowledge, advance, cycle, decodes}
+use Rattle.tape.proofs.Decodes.{either, Decodes, malformed, reset, write, read, intp, gates, requests, acknowledge, advance, cycle, decodes}
 use Rattle.promises.specs.Logic.{both-left, both-right}
 use Rattle.promises.specs.Table as Table
 use Rattle.promises.specs.Table.{formed, levelsFit, outOfTurn, notBuilt, intLow, countsOne, due, earlyWord, unbuiltWord, modeless, earlyCount, unbuiltControl, unbuiltRegister, completesOne}

@@ -24,12 +24,11 @@ use Rattle.dma.specs.Report.{Told}
 use Rattle.dma.specs.Cycle.{writes, pokeOf, single, ready, channelAt, winnerFrom, winner, lastOf, releases, nothingOf, grantedOf, releasedOf, unitOf, cycleBy}
 use Rattle.dma.specs.Cycle as DmaCycle
 use Rattle.board.specs.declared.Board.{Board}
-use Rattle.board.specs.declared.Outcome.{Outcome}
+use Rattle.board.specs.Operations.{Outcome, refused, icuTold, icuWritten, a0, payloadOf, timerWritten, timerShown, dmaWritten, dmaShown, writeOf, readOf, cycleOf, cycleMemory}
 use Rattle.board.specs.Wiring.{levelsOf, rewired}
-use Rattle.board.specs.Operations.{refused, icuTold, icuWritten, a0, payloadOf, timerWritten, timerShown, dmaWritten, dmaShown, writeOf, readOf, cycleOf, cycleMemory}
 use Rattle.board.specs.Advance.{advanceOf}
 use Rattle.board.specs.Step.{executeOf, memoryAfter, blocked, outcomeOf, memoryOf, answeredOf, stepOf, stepMemory}
-use Rattle.promises.specs.Decodes.{either, Decodes, malformed, reset, write, read, intp, gates, requests, acknowledge, advance, cycle, decodes}
+use Rattle.tape.proofs.Decodes.{either, Decodes, malformed, reset, write, read, intp, gates, requests, acknowledge, advance, cycle, decodes}
 use Rattle.promises.specs.Words.{disturbs}
 use Rattle.promises.specs.Sound.{Sound, cycle-sound, requests-sound, read-sound, write-sound, reset-sound}
 use Rattle.promises.specs.Seen.{Seen, still, unit, same, Serves, starts}

@@ -25,8 +25,7 @@ use Rattle.dma.specs.Fields.{chan}
 use Rattle.board.specs.declared.Board.{Board}
 use Rattle.board.specs.Wiring.{icu-is, lines}
 use Rattle.board.specs.Step.{stepOf}
-use Rattle.intake.specs.Records.{recordAt}
-use Rattle.intake.specs.Feed.{after}
+use Rattle.board.specs.Records.{recordAt, after}
 use Rattle.promises.specs.Words.{answersIn, unitsOf, Reached}
 use Rattle.promises.specs.Runs.{reached-sound}
 use Rattle.promises.specs.BoardKept.{reached-held}

@@ -18,7 +18,7 @@ use Rattle.timer.specs.Ports.{resetOf, Answer, SC, RWM, CM, BCD, moded, modeSet
 use Rattle.timer.specs.Pulse.{pulse0, pulse2, pulseOf, gateOf}
 use Rattle.timer.specs.Timer.{blank, at, three, resetsOf, wroteBy, gotBy, controlsOf, writesOf, readsOf, pulsesOf, gatesOf}
 use Rattle.intake.specs.Ranges.{counterGood, timerGood}
-use Rattle.promises.specs.Decodes.{either}
+use Rattle.tape.proofs.Decodes.{either}
 
 -- One counter.
 abbrev pub Good : Counter → Type 0

@@ -15,8 +15,8 @@ use Rattle.dma.specs.Cycle.{down, auto, writes}
 use Rattle.board.specs.declared.Board.{Board}
 use Rattle.board.specs.Wiring.{freshOf}
 use Rattle.board.specs.Step.{stepOf}
-use Rattle.intake.specs.Records.{recordAt}
-use Rattle.intake.specs.Feed.{after, bytesOf, countOf, taken, fedOf, fedMemory, fedAnswers}
+use Rattle.board.specs.Records.{recordAt, after}
+use Rattle.intake.specs.Feed.{bytesOf, countOf, taken, fedOf, fedMemory, fedAnswers}
 
 -- Answer i of the bytes of many answers, and the first n answers.
 unfoldable pub answerAt : List ℕ → ℕ → List ℕ

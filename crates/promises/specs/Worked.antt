@@ -6,7 +6,8 @@ use native.Mathlib.Omega.{arith}
 use lib.ListN.{replicate}
 use Rattle.board.specs.declared.Board.{Board}
 use Rattle.board.specs.Wiring.{freshOf}
-use Rattle.intake.specs.Feed.{after, fedOf}
+use Rattle.board.specs.Records.{after}
+use Rattle.intake.specs.Feed.{fedOf}
 use Rattle.promises.specs.Words.{answerAt, answersIn, unitsOf, Calm, Reached, unfed, fed}
 use Rattle.promises.specs.Opened.{rules}
 use Rattle.promises.specs.Plain.{writing}
