@@ -362,10 +362,12 @@ impl Counter {
                     second: false,
                 };
             }
+            // the last byte alone frees the latch
+            let latched = self.latched;
             return Seen {
                 status: 0,
                 byte: (v % 256) as u8,
-                latched: self.latched,
+                latched: latched,
                 second: true,
             };
         }
