@@ -1,9 +1,9 @@
 // An answer in words, and for a refusal a sentence that helps.
-use crate::notation;
-use crate::sentences;
-use crate::text::Text;
 use board::Board;
 use icu::Icu;
+use words::notation;
+use words::sentences;
+use words::text::Text;
 
 // The answer to a record of a lesson; the board is as it was before the record.
 pub fn words(board: Board, r: [u8; 8], a: [u8; 16]) -> Text {

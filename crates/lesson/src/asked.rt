@@ -1,8 +1,8 @@
 // What a record asks for, in the chips' own words.
-use crate::notation;
-use crate::sentences;
-use crate::text::Text;
 use board::Board;
+use words::notation;
+use words::sentences;
+use words::text::Text;
 
 // The board is as it is before the record: what a byte means depends on it. A record that is refused with 2 asks for nothing, and stands in the notation.
 pub fn words(board: Board, r: [u8; 8], status: u8) -> Text {

@@ -2,16 +2,16 @@
 // lesson assemble | list | explain: filters on standard input and output; lesson pieces FILE.. shows what they make of a lesson.
 mod answered;
 mod asked;
-mod notation;
-mod sentences;
-mod text;
 
 use board::Board;
 use libc::STDERR_FILENO;
 use libc::STDIN_FILENO;
 use libc::STDOUT_FILENO;
-use notation::Parsed;
-use text::Text;
+use words::notation;
+use words::notation::Parsed;
+use words::sentences;
+use words::text;
+use words::text::Text;
 
 // What is done with each record of a lesson, or of a tape, or with each answer.
 const CHECK: u8 = 0;

@@ -1,7 +1,7 @@
 use Prim.Native.Nat.{_-_}
 use borrow.Author.Needs.{needs}
-use Rattle.lesson.proofs.notation.parse_bytes.Statement.{statement}
-use Rattle.lesson.proofs.notation.parse_bytes.Tie as tie
+use Rattle.words.proofs.notation.parse_bytes.Statement.{statement}
+use Rattle.words.proofs.notation.parse_bytes.Tie as tie
 
 abbrev Inv-loop : tie.InvT-loop
 Inv-loop line n at f r₀ from₀ to k₀ r from k = Unit {0}

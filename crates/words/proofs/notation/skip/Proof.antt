@@ -1,7 +1,7 @@
 use Prim.Native.Nat.{_-_}
 use borrow.Author.Needs.{needs}
-use Rattle.lesson.proofs.notation.skip.Statement.{statement}
-use Rattle.lesson.proofs.notation.skip.Tie as tie
+use Rattle.words.proofs.notation.skip.Statement.{statement}
+use Rattle.words.proofs.notation.skip.Tie as tie
 
 abbrev Inv-loop : tie.InvT-loop
 Inv-loop line n at word i₀ i = Unit {0}

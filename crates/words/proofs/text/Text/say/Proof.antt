@@ -1,11 +1,11 @@
 use Prim.Native.Nat.{_-_}
 use borrow.Author.Needs.{needs}
 use lib.ListN.{length}
-use Rattle.lesson.proofs.text.Text.say.Statement.{statement}
-use Rattle.lesson.proofs.text.Text.say.Tie as tie
-use Rattle.lesson.proofs.text.Text.say.Reads as reads
-use Rattle.lesson.proofs.text.Text.say.Lts as lts
-use Rattle.lesson.proofs.text.Text.put.Reads as put-reads
+use Rattle.words.proofs.text.Text.say.Statement.{statement}
+use Rattle.words.proofs.text.Text.say.Tie as tie
+use Rattle.words.proofs.text.Text.say.Reads as reads
+use Rattle.words.proofs.text.Text.say.Lts as lts
+use Rattle.words.proofs.text.Text.put.Reads as put-reads
 
 abbrev Inv-loop : tie.InvT-loop
 Inv-loop s t₀ i₀ t i = Unit {0}

@@ -1,8 +1,8 @@
 use Prim.Native.Nat.{_-_}
 use borrow.Author.Needs.{needs}
 use lib.ListN.{length}
-use Rattle.lesson.proofs.sentences.find.Statement.{statement}
-use Rattle.lesson.proofs.sentences.find.Tie as tie
+use Rattle.words.proofs.sentences.find.Statement.{statement}
+use Rattle.words.proofs.sentences.find.Tie as tie
 
 abbrev Inv-loop : tie.InvT-loop
 Inv-loop table n high low i₀ i = Unit {0}

@@ -1,10 +1,10 @@
 use Prim.Native.Nat.{_-_}
 use borrow.Author.Needs.{needs}
-use Rattle.lesson.proofs.text.Text.pad.Statement.{statement}
-use Rattle.lesson.proofs.text.Text.pad.Tie as tie
-use Rattle.lesson.proofs.text.Text.pad.Reads as reads
-use Rattle.lesson.proofs.text.Text.pad.Lts as lts
-use Rattle.lesson.proofs.text.Text.put.Reads as put-reads
+use Rattle.words.proofs.text.Text.pad.Statement.{statement}
+use Rattle.words.proofs.text.Text.pad.Tie as tie
+use Rattle.words.proofs.text.Text.pad.Reads as reads
+use Rattle.words.proofs.text.Text.pad.Lts as lts
+use Rattle.words.proofs.text.Text.put.Reads as put-reads
 
 abbrev Inv-loop : tie.InvT-loop
 Inv-loop to t₀ i₀ t i = Unit {0}

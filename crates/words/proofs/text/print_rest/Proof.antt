@@ -1,18 +1,18 @@
 use Prim.Native.Nat.{_-_}
 use borrow.Author.Needs.{needs}
-use Rattle.lesson.proofs.text.print_rest.Statement.{statement}
-use Rattle.lesson.proofs.text.print_rest.Tie as tie
-use Rattle.lesson.proofs.text.print_rest.Reads as reads
-use Rattle.lesson.proofs.text.print_rest.Lts as lts
-use Rattle.lesson.proofs.text.Text.after.Reads as after-reads
-use Rattle.lesson.proofs.text.Text.break_at.Reads as break-at-reads
-use Rattle.lesson.proofs.text.Text.new.Reads as new-reads
-use Rattle.lesson.proofs.text.Text.pad.Reads as pad-reads
-use Rattle.lesson.proofs.text.Text.part.Reads as part-reads
-use Rattle.lesson.proofs.text.Text.print.Reads as print-reads
-use Rattle.lesson.proofs.text.Text.put.Reads as put-reads
-use Rattle.lesson.proofs.text.add_answer.Reads as add-answer-reads
-use Rattle.lesson.proofs.text.is_done.Reads as is-done-reads
+use Rattle.words.proofs.text.print_rest.Statement.{statement}
+use Rattle.words.proofs.text.print_rest.Tie as tie
+use Rattle.words.proofs.text.print_rest.Reads as reads
+use Rattle.words.proofs.text.print_rest.Lts as lts
+use Rattle.words.proofs.text.Text.after.Reads as after-reads
+use Rattle.words.proofs.text.Text.break_at.Reads as break-at-reads
+use Rattle.words.proofs.text.Text.new.Reads as new-reads
+use Rattle.words.proofs.text.Text.pad.Reads as pad-reads
+use Rattle.words.proofs.text.Text.part.Reads as part-reads
+use Rattle.words.proofs.text.Text.print.Reads as print-reads
+use Rattle.words.proofs.text.Text.put.Reads as put-reads
+use Rattle.words.proofs.text.add_answer.Reads as add-answer-reads
+use Rattle.words.proofs.text.is_done.Reads as is-done-reads
 
 abbrev Inv-loop : tie.InvT-loop
 Inv-loop asked from answer start a₀ b₀ turns₀ a b turns = Unit {0}

@@ -1,8 +1,8 @@
 use Prim.Native.Nat.{_-_}
 use borrow.Author.Needs.{needs}
 use lib.ListN.{length}
-use Rattle.lesson.proofs.sentences.fill.Statement.{statement}
-use Rattle.lesson.proofs.sentences.fill.Tie as tie
+use Rattle.words.proofs.sentences.fill.Statement.{statement}
+use Rattle.words.proofs.sentences.fill.Tie as tie
 
 abbrev Inv-loop : tie.InvT-loop
 Inv-loop table n facts first second f₀ i₀ f i = Unit {0}

@@ -1,10 +1,10 @@
 use mathlib.Core.Path.{sym}
 use lib.Seq.{length-take-le}
 use borrow.Author.Needs.{needs}
-use Rattle.lesson.proofs.text.write_part.Statement.{statement}
-use Rattle.lesson.proofs.text.write_part.Tie as tie
-use Rattle.lesson.proofs.text.write_part.Reads as reads
-use Rattle.lesson.proofs.text.write_part.Lts as lts
+use Rattle.words.proofs.text.write_part.Statement.{statement}
+use Rattle.words.proofs.text.write_part.Tie as tie
+use Rattle.words.proofs.text.write_part.Reads as reads
+use Rattle.words.proofs.text.write_part.Lts as lts
 use Rattle.io.proofs.write_all.Reads as write-all-reads
 
 returns : tie.Need-returns

@@ -1,8 +1,8 @@
 use Prim.Native.Nat.{_-_}
 use borrow.Author.Needs.{needs}
 use lib.ListN.{length}
-use Rattle.lesson.proofs.notation.which.Statement.{statement}
-use Rattle.lesson.proofs.notation.which.Tie as tie
+use Rattle.words.proofs.notation.which.Statement.{statement}
+use Rattle.words.proofs.notation.which.Tie as tie
 
 abbrev Inv-loop : tie.InvT-loop
 Inv-loop list s start end n₀ at₀ i₀ n at i = Unit {0}

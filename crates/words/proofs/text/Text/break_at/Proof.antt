@@ -1,9 +1,9 @@
 use borrow.Author.Needs.{needs}
-use Rattle.lesson.proofs.text.Text.break_at.Statement.{statement}
-use Rattle.lesson.proofs.text.Text.break_at.Tie as tie
-use Rattle.lesson.proofs.text.Text.break_at.Reads as reads
-use Rattle.lesson.proofs.text.Text.break_at.Lts as lts
-use Rattle.lesson.proofs.text.Text.is_space.Reads as is-space-reads
+use Rattle.words.proofs.text.Text.break_at.Statement.{statement}
+use Rattle.words.proofs.text.Text.break_at.Tie as tie
+use Rattle.words.proofs.text.Text.break_at.Reads as reads
+use Rattle.words.proofs.text.Text.break_at.Lts as lts
+use Rattle.words.proofs.text.Text.is_space.Reads as is-space-reads
 
 abbrev Inv-loop : tie.InvT-loop
 Inv-loop self from width n most i₀ i = Unit {0}

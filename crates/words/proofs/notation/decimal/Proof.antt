@@ -1,10 +1,10 @@
 use Prim.Native.Nat.{_-_}
 use borrow.Author.Needs.{needs}
-use Rattle.lesson.proofs.notation.decimal.Statement.{statement}
-use Rattle.lesson.proofs.notation.decimal.Tie as tie
-use Rattle.lesson.proofs.notation.decimal.Reads as reads
-use Rattle.lesson.proofs.notation.decimal.Lts as lts
-use Rattle.lesson.proofs.notation.digit.Reads as digit-reads
+use Rattle.words.proofs.notation.decimal.Statement.{statement}
+use Rattle.words.proofs.notation.decimal.Tie as tie
+use Rattle.words.proofs.notation.decimal.Reads as reads
+use Rattle.words.proofs.notation.decimal.Lts as lts
+use Rattle.words.proofs.notation.digit.Reads as digit-reads
 
 abbrev Inv-loop : tie.InvT-loop
 Inv-loop line start end v₀ i₀ v i = Unit {0}

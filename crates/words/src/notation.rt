@@ -260,11 +260,13 @@ fn parse_advance(line: &[u8; 1000], n: usize, at: usize) -> Parsed {
     if 4294967295 < v {
         return Parsed::bad(w.start, PULSES);
     }
-    let b0 = (v % 256) as u8;
-    let b1 = (v / 256 % 256) as u8;
-    let b2 = (v / 65536 % 256) as u8;
-    let b3 = (v / 16777216 % 256) as u8;
-    close(line, n, w.end, [5, 0, 0, 0, b0, b1, b2, b3])
+    let pulses = tape::little((v % 4294967296) as u32);
+    close(
+        line,
+        n,
+        w.end,
+        [5, 0, 0, 0, pulses[0], pulses[1], pulses[2], pulses[3]],
+    )
 }
 
 fn parse_cycle(line: &[u8; 1000], n: usize, at: usize) -> Parsed {
