@@ -1,5 +1,6 @@
 /* host SEED [MEMORY] <TAPE >ANSWERS: feeds the tape to a fresh board in random lumps (of 0 to 40 bytes, now and then of some
- * thousands), writes the answers, and leaves the memory in the file MEMORY. It is `./run feed` with other lumps, in C.
+ * thousands), writes the answers, and leaves the memory in the file MEMORY. It is `./run feed` with other lumps, in C. Before the tape and
+ * after it, the board must be in range; a copy with dma.selected 4 must not be, and must be refused.
  *
  * The toolchain's compiler comes without C's headers, so the few functions of the C library are declared here. */
 #include "limbusagin.h"
@@ -66,6 +67,20 @@ static unsigned long below(unsigned long n)
     return (state >> 33) % n;
 }
 
+/* A board that the library gave out is in range. With one field out of range it is not, and a call on it is refused; with no bytes fed, that
+ * is for its range alone. */
+static void check_range(struct limbusagin_board board)
+{
+    unsigned char tape = 0, memory = 0, answers = 0; /* a pointer is valid also for length 0 */
+    if (!limbusagin_in_range(board))
+        fail("a board that the library gave out is not in range");
+    board.dma.selected = 4;
+    if (limbusagin_in_range(board))
+        fail("a board with dma.selected 4 is in range");
+    if (limbusagin_feed(board, &tape, 0, &memory, 0, &answers, 0).status != 7)
+        fail("a board with dma.selected 4 is not refused with 7");
+}
+
 int main(int words, char **word)
 {
     static unsigned char answers[LIMBUSAGIN_ANSWER * 1024];
@@ -85,6 +100,7 @@ int main(int words, char **word)
     }
     struct bytes tape = read_whole(0, "standard input");
     struct limbusagin_board board = limbusagin_fresh();
+    check_range(board);
     unsigned long at = 0;
     while (at < tape.length) {
         unsigned long lump = below(50) == 0 ? below(8000) : below(41);
@@ -98,6 +114,7 @@ int main(int words, char **word)
         board = fed.board;
         at += lump;
     }
+    check_range(board);
     if (words == 3) {
         int file = open(word[2], REPLACING);
         if (file < 0)

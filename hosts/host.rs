@@ -1,9 +1,10 @@
 //! host SEED [MEMORY] <TAPE >ANSWERS: feeds the tape to a fresh board in random lumps (of 0 to 40 bytes, now and then of some
-//! thousands), writes the answers, and leaves the memory in the file MEMORY. It is `./run feed` with other lumps, in Rust.
+//! thousands), writes the answers, and leaves the memory in the file MEMORY. It is `./run feed` with other lumps, in Rust. Before the tape and
+//! after it, the board must be in range; a copy with dma.selected 4 must not be, and must be refused.
 //! host layout: prints where each field of a board lies.
 #![forbid(unsafe_code)]
 
-use limbusagin::{ANSWER, Board, Channel, Counter, Fed, VERSION, version};
+use limbusagin::{ANSWER, Board, Channel, Counter, Fed, Refused, VERSION, version};
 use std::error::Error;
 use std::io::{Read, Write, stdin, stdout};
 use std::mem::offset_of;
@@ -15,6 +16,22 @@ impl Random {
         self.0 = self.0.wrapping_mul(6364136223846793005).wrapping_add(1442695040888963407);
         ((self.0 >> 33) % n) as usize
     }
+}
+
+/// A board that the library gave out is in range. With one field out of range it is not, and a call on it is refused; with no bytes fed, that
+/// is for its range alone.
+fn check_range(mut board: Board) -> Result<(), &'static str> {
+    if !board.is_in_range() {
+        return Err("a board that the library gave out is not in range");
+    }
+    board.dma.selected = 4;
+    if board.is_in_range() {
+        return Err("a board with dma.selected 4 is in range");
+    }
+    if board.feed(&[], &mut [], &mut []) != Err(Refused) {
+        return Err("a board with dma.selected 4 is not refused");
+    }
+    Ok(())
 }
 
 fn main() -> Result<(), Box<dyn Error>> {
@@ -38,6 +55,7 @@ fn main() -> Result<(), Box<dyn Error>> {
     stdin().read_to_end(&mut tape)?;
     let mut answers = [0; ANSWER * 1024];
     let mut board = Board::fresh();
+    check_range(board)?;
     let mut rest = &tape[..];
     while !rest.is_empty() {
         let most = if random.below(50) == 0 { random.below(8000) } else { random.below(41) };
@@ -46,6 +64,7 @@ fn main() -> Result<(), Box<dyn Error>> {
         stdout().write_all(&answers[..ANSWER * taken])?;
         rest = after;
     }
+    check_range(board)?;
     stdout().flush()?;
     if let Some(file) = words.get(1) {
         std::fs::write(file, memory)?;

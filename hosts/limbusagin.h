@@ -139,6 +139,11 @@ limbusagin_u32 limbusagin_version(void);
 /* A board that was just reset, with no bytes kept. */
 struct limbusagin_board limbusagin_fresh(void);
 
+/* Whether every field of a board has a value that some board reached from reset has there (docs/RANGES.md). A call on another board is
+ * refused with 7, and so is one with too small a buffer: this tells the two apart. It tests numbers; a bool must be 0 or 1 here as in
+ * every call. */
+limbusagin_bool limbusagin_in_range(struct limbusagin_board board);
+
 /* One call: the bytes of a tape, in any lump, are fed to the board over the lent memory.
  *
  * With k the whole records that the kept bytes and the tape come to, the call writes 16 * k bytes to answers, leaves the rest

@@ -189,6 +189,7 @@ mod library {
     unsafe extern "C" {
         pub safe fn limbusagin_version() -> u32;
         pub safe fn limbusagin_fresh() -> super::Board;
+        pub safe fn limbusagin_in_range(board: super::Board) -> bool;
         /// Each pointer is valid for the length after it and not null, and the three parts do not overlap.
         pub unsafe fn limbusagin_feed(
             board: super::Board,
@@ -211,6 +212,12 @@ impl Board {
     /// A board that was just reset, with no bytes kept.
     pub fn fresh() -> Board {
         library::limbusagin_fresh()
+    }
+
+    /// Whether every field has a value that some board reached from reset has there (docs/RANGES.md). [`Board::feed`] refuses any other
+    /// board, and also a buffer that is too small for the answers: this tells the two apart.
+    pub fn is_in_range(&self) -> bool {
+        library::limbusagin_in_range(*self)
     }
 
     /// One call: the bytes of a tape, in any lump, are fed to the board over the lent memory.
