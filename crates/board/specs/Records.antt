@@ -44,6 +44,9 @@ after b m s (suc n) = next (after b m s n) (recordAt s n)
 abbrev pub fitting : List ℕ → ℕ → ℕ
 fitting s room = if ltb (room / 16) (length s / 8) then room / 16 else length s / 8
 
+abbrev pub runOf : Board → List ℕ → List ℕ → ℕ → Run
+runOf b m s room = after b m s (fitting s room)
+
 -- The eight bytes from a place on, and those of a number, little end first: a program holds a record in one number.
 unfoldable pub eightFrom : List ℕ → ℕ → List ℕ
 eightFrom s a =

@@ -18,7 +18,7 @@ ghost use Rattle.board.specs.Wiring.{linesAt, levelsOf, freshOf, levelsA
 ghost use Rattle.board.specs.Operations.{turnOf, flagOf, payloadOf};
 ghost use Rattle.board.specs.Advance.{advancedOf, risesPayload};
 ghost use Rattle.board.specs.Step.{stepOf, stepMemory};
-ghost use Rattle.board.specs.Records.{recordAt, eightFrom, digitsOf, after, fitting};
+ghost use Rattle.board.specs.Records.{recordAt, eightFrom, digitsOf, fitting, runOf};
 use dma::Dma;
 use dma::Report;
 use icu::Acknowledged;
@@ -490,9 +490,9 @@ impl Board {
         memory: &mut [u8],
         answers: &mut [u8],
     ) -> Board
-        ensures result { λ r. ⌜ r ≡ after self (now (memory .entry)) (take size kept ++ now (tape .entry)) (fitting (take size kept ++ now (tape .entry)) (length (now (answers .entry)))) .board ⌝ }
-        ensures memory { λ _. ⌜ now (memory .exit) ≡ after self (now (memory .entry)) (take size kept ++ now (tape .entry)) (fitting (take size kept ++ now (tape .entry)) (length (now (answers .entry)))) .memory ⌝ }
-        ensures answers { λ _. ⌜ now (answers .exit) ≡ after self (now (memory .entry)) (take size kept ++ now (tape .entry)) (fitting (take size kept ++ now (tape .entry)) (length (now (answers .entry)))) .answers ++ drop (16 * fitting (take size kept ++ now (tape .entry)) (length (now (answers .entry)))) (now (answers .entry)) ⌝ }
+        ensures result { λ r. ⌜ r ≡ runOf self (now (memory .entry)) (take size kept ++ now (tape .entry)) (length (now (answers .entry))) .board ⌝ }
+        ensures memory { λ _. ⌜ now (memory .exit) ≡ runOf self (now (memory .entry)) (take size kept ++ now (tape .entry)) (length (now (answers .entry))) .memory ⌝ }
+        ensures answers { λ _. ⌜ now (answers .exit) ≡ runOf self (now (memory .entry)) (take size kept ++ now (tape .entry)) (length (now (answers .entry))) .answers ++ drop (16 * fitting (take size kept ++ now (tape .entry)) (length (now (answers .entry)))) (now (answers .entry)) ⌝ }
     {
         let waiting = self.kept;
         let total = tape::count_bytes(kept, size, tape);
