@@ -3,9 +3,11 @@
 
     crates/board/loop_proof.py
 
-After an edit of the loop: an arm more is one entry of ARMS, in the order of the arms in the source. What an arm comes to is a law of
-proofs/Arms.antt; this script only finds the long way from an arm's end back to each fact that the law asks for. It reads the modules that
-`rt dev board --generated` writes. The result is checked like any other proof, so a mistake here can only make a check fail.
+Run it after an edit of the loop. An arm here is a way through the loop that ends in `continue`, so an operation can have several. An arm more is: a
+law in proofs/Arms.antt, which says what it comes to; its name in LAWS; a function below that hands the law its facts; and an entry of ARMS, in the order of
+the `continue`s in the source. A local or a fact more at the head of the loop goes into LOCALS or INVARIANT. The script finds the long way from an arm's
+end back to each fact. It reads the modules that `rt dev board --generated` writes, and ends with `rt fmt`. What it writes is checked like any other proof,
+so a mistake here can only make a check fail.
 """
 import os
 import re

@@ -47,7 +47,7 @@ fitting s room = if ltb (room / 16) (length s / 8) then room / 16 else length s 
 abbrev pub runOf : Board → List ℕ → List ℕ → ℕ → Run
 runOf b m s room = after b m s (fitting s room)
 
--- The eight bytes from a place on, and those of a number, little end first: a program holds a record in one number.
+-- The eight bytes from a place on, and those of a number, little end first: for the program, which hands a record on as one number.
 unfoldable pub eightFrom : List ℕ → ℕ → List ℕ
 eightFrom s a =
     getD s a 0

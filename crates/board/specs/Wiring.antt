@@ -61,7 +61,7 @@ rewired intp t b =
 abbrev pub levelsAt : Icu → ℕ → Timer → ℕ
 levelsAt c intp t = levelsOf (record { icu = c; intp = intp; timer = t; dma = DmaRegisters.resetOf; kept = nothingKept })
 
--- The same change of lines without the board: the interrupt chip after it, and the levels.
+-- What `rewired` does to the interrupt chip, without the board: the chip after the change, and the levels.
 abbrev pub wiredTo : Icu → ℕ → ℕ → Timer → Wired
 wiredTo c was intp t =
     record { icu = linesOf c was (linesAt intp t); levels = levelsAt (linesOf c was (linesAt intp t)) intp t }

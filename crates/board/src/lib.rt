@@ -65,7 +65,7 @@ pub struct Stepped {
     pub answer: [u8; 16],
 }
 
-// An advance under way.
+// What n pulses make of the timer and the interrupt chip, and how many made each OUT rise.
 pub struct Run {
     pub timer: Timer,
     pub icu: Icu,
@@ -87,6 +87,7 @@ fn lines_at(intp: u8, timer: Timer) -> u8
 fn run_pulses(timer: Timer, icu: Icu, intp: u8, n: u32) -> Run
     ensures { λ r. ⌜ r ≡ advancedOf intp timer icu n ⌝ }
 {
+    // for the proof: then the timer is itself, and not three counters put together
     if n == 0 {
         return Run {
             timer: timer,
@@ -345,7 +346,8 @@ fn wide(x: u8) -> u64
     x as u64
 }
 
-// Eight bytes as one number, little end first: a record goes through the loop as one number and not as eight.
+// Eight bytes as one number, little end first. A record comes from one of two places (`word_at`), and where the two meet one number is handed on and not
+// eight bytes.
 fn pack(b0: u8, b1: u8, b2: u8, b3: u8, b4: u8, b5: u8, b6: u8, b7: u8) -> u64
     ensures { λ r. ⌜ digitsOf r ≡ b0 ∷ b1 ∷ b2 ∷ b3 ∷ b4 ∷ b5 ∷ b6 ∷ b7 ∷ [] ⌝ }
 {
@@ -403,6 +405,7 @@ fn word_at(kept: [u8; 7], size: u8, tape: &[u8], i: usize) -> u64
     kept_word(kept, size, tape)
 }
 
+// The same, byte by byte.
 fn record_at(kept: [u8; 7], size: u8, tape: &[u8], i: usize) -> [u8; 8]
     requires { ⌜ 8 * i + 8 ≤ heldOf size + length (now tape) ⌝ }
     ensures { λ r. ⌜ r ≡ recordAt (take size kept ++ now (tape .entry)) i ⌝ }
@@ -481,7 +484,8 @@ impl Board {
     }
 
     // The whole records that some kept bytes and the tape make, one after another, as many as the buffer has room for. The loop owns the chips,
-    // and each operation is an arm that changes its own chip, puts its answer and goes on to the next record.
+    // and each operation is an arm that changes its own chip, puts its answer and goes on to the next record. The
+    // bytes that the board itself keeps stay as they are.
     pub fn run(
         self,
         kept: [u8; 7],
@@ -527,14 +531,13 @@ impl Board {
                     tell(answers, i, 0, op, 0, levels, [0u8; 12]);
                     continue;
                 }
-                // the chip that the port's high digit names
+                // the chip that the port's high digit names: 0 interrupt chip, 1 timer, 2 DMA chip
                 Operation::Write(port, x) => {
                     let chip = port / 16;
                     if chip == 0 {
                         let t = write_icu(icu, port % 2 == 1, x);
-                        let c = t.icu;
                         let p = t.payload;
-                        icu = c;
+                        icu = t.icu;
                         levels = levels_at(icu, intp, timer);
                         tell(answers, i, t.status, op, t.byte, levels, p);
                         continue;
@@ -545,8 +548,7 @@ impl Board {
                         if w.status == 0 {
                             let after = w.timer;
                             let wired = rewire(icu, intp, timer, intp, after);
-                            let c = wired.icu;
-                            icu = c;
+                            icu = wired.icu;
                             timer = after;
                             levels = wired.levels;
                             tell(answers, i, 0, op, 0, levels, [0u8; 12]);
@@ -557,8 +559,7 @@ impl Board {
                     }
                     let w = dma.write(port, x);
                     if w.status == 0 {
-                        let after = w.dma;
-                        dma = after;
+                        dma = w.dma;
                         tell(answers, i, 0, op, 0, levels, [0u8; 12]);
                         continue;
                     }
@@ -574,7 +575,7 @@ impl Board {
                         tell(answers, i, t.status, op, t.byte, levels, p);
                         continue;
                     }
-                    // port 13H is not open to reads, so this is a counter's
+                    // port 13H is not open to reads, so this is a counter's: `% 3` keeps the index in range and changes nothing
                     if chip == 1 {
                         let n = (port % 4 % 3) as usize;
                         let mut c = timer.counters[n];
@@ -593,19 +594,17 @@ impl Board {
                 // INTP1 to INTP7; INTP0 is OUT0
                 Operation::Intp(x) => {
                     let wired = rewire(icu, intp, timer, x, timer);
-                    let c = wired.icu;
-                    icu = c;
+                    icu = wired.icu;
                     intp = x;
                     levels = wired.levels;
                     tell(answers, i, 0, op, 0, levels, [0u8; 12]);
                     continue;
                 }
-                // a gate may set OUT0 high
+                // a gate's fall may set OUT0 high
                 Operation::Gates(x) => {
                     let after = timer.set_gates(x);
                     let wired = rewire(icu, intp, timer, intp, after);
-                    let c = wired.icu;
-                    icu = c;
+                    icu = wired.icu;
                     timer = after;
                     levels = wired.levels;
                     tell(answers, i, 0, op, 0, levels, [0u8; 12]);
@@ -619,9 +618,8 @@ impl Board {
                 // the interrupt chip gives the vector or the CALL
                 Operation::Acknowledge => {
                     let t = acknowledge(icu, lines_at(intp, timer));
-                    let c = t.icu;
                     let p = t.payload;
-                    icu = c;
+                    icu = t.icu;
                     levels = levels_at(icu, intp, timer);
                     tell(answers, i, t.status, op, t.byte, levels, p);
                     continue;
@@ -629,16 +627,14 @@ impl Board {
                 // one clock for the three counters; OUT0 reaches the interrupt chip after each pulse
                 Operation::Advance(n) => {
                     let a = run_pulses(timer, icu, intp, n);
-                    let t = a.timer;
-                    let c = a.icu;
                     let rises = a.rises;
-                    timer = t;
-                    icu = c;
+                    timer = a.timer;
+                    icu = a.icu;
                     levels = levels_at(icu, intp, timer);
                     tell(answers, i, 0, op, 0, levels, rises_payload(rises));
                     continue;
                 }
-                // a plain unit changes its channel alone; any other cycle is the DMA chip's
+                // of the DMA chip a plain unit changes its channel alone, and is done here; `Dma::cycle` does any other cycle
                 Operation::Cycle(end, x) => {
                     let n = dma.channel;
                     let at = (n % 4) as usize;
@@ -651,9 +647,8 @@ impl Board {
                         continue;
                     }
                     let cycled = dma.cycle(end, x, memory);
-                    let after = cycled.dma;
                     let report = cycled.report;
-                    dma = after;
+                    dma = cycled.dma;
                     tell(
                         answers,
                         i,

@@ -163,8 +163,8 @@ cycleBy d e b m serving releases disabled unready =
 unfoldable pub cycleOf : Dma → Bool → ℕ → List ℕ → Out
 cycleOf d e b m = cycleBy d e b m (d .serving) (releases d) (d .disabled) (eqb (winner d) 4)
 
--- A unit of channel n, which is c, that is neither the last nor stops service: its channel alone changes, and of that the current address and
--- count.
+-- Whether a cycle moves a unit of channel n, which is c, that is not the last and does not stop service. Of the chip it then changes that channel's
+-- current address and count alone.
 unfoldable pub plainOf : Channel → Bool → ℕ → ℕ → Bool → Bool
 plainOf c serving n requests e =
     if serving then

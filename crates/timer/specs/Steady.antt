@@ -1,5 +1,5 @@
 -- The program's way through n pulses once nothing pends: no transfer, no trigger. A pulse then moves no more of a counter than its
--- value and OUT. `Run` has the rule; proofs/Runs.antt shows that this comes to the same.
+-- value and OUT. Run.antt has the rule; proofs/Runs.antt shows that this comes to the same.
 use Prim.Native.Nat.{ℕ, zero, suc, _+_}
 use mathlib.Core.Bool.{Bool, true, false}
 use lib.Dec.{eqb}
@@ -19,21 +19,22 @@ pub record Moving : Type 0 where
 abbrev pub moved : ℕ → Bool → Moving
 moved v level = record { value = v; out = level }
 
--- Mode 0 falls by one, and reaching 0 sets OUT high.
+-- Mode 0 subtracts one, and reaching 0 sets OUT high.
 abbrev pub fall0 : Moving → Moving
 fall0 m = if eqb (less (m .value)) 0 then moved (less (m .value)) true else moved (less (m .value)) (m .out)
 
--- Mode 2 at 1 reloads the count and sets OUT high. Otherwise it falls by one, and reaching 1 sets OUT low.
+-- Mode 2 at 1 reloads the count and sets OUT high. Otherwise it subtracts one, and reaching 1 sets OUT low.
 abbrev pub fall2 : ℕ → Moving → Moving
 fall2 count m =
     if eqb (m .value) 1 then moved count true
     else if eqb (less (m .value)) 1 then moved (less (m .value)) false
     else moved (less (m .value)) (m .out)
 
--- One pulse more, by such a rule.
+-- What moves, of a fall.
 abbrev pub moving : Fall → Moving
 moving f = moved (f .value) (f .out)
 
+-- One pulse more, by such a rule.
 abbrev pub fellOn : (Moving → Moving) → Fall → Fall
 fellOn fall f =
     record {
@@ -57,13 +58,14 @@ fellBy fall c n = fallenTo c (fellOf fall (moved (c .value) (c .out)) n)
 abbrev pub rested : Counter → Ran
 rested c = record { counter = c; rises = 0 }
 
--- A mode falls by its rule where it counts. Mode 0 doesn't while a count is half-written, and neither does with GATE low.
+-- Each mode by its rule while it counts: not with GATE low, and mode 0 not while a count is half-written.
 abbrev pub steady0 : Counter → ℕ → Ran
 steady0 c n = if c .half then rested c else if c .gate then fellBy fall0 c n else rested c
 
 abbrev pub steady2 : Counter → ℕ → Ran
 steady2 c n = if c .gate then fellBy (fall2 (c .count)) c n else rested c
 
+-- Without a complete count, or without a mode, a counter stands.
 unfoldable pub steadyOf : Counter → ℕ → Ran
 steadyOf c n =
     if c .full then (if eqb (c .mode) 0 then steady0 c n else if eqb (c .mode) 2 then steady2 c n else rested c)

@@ -571,8 +571,8 @@ transfer-requires c κs = search needs
 advance-requires : tie.Need-advance-requires Inv-loop μ-loop
 advance-requires c κs = search needs
 
-mul-t178 : tie.Need-mul-t178 Inv-loop μ-loop
-mul-t178 c = search needs
+mul-t169 : tie.Need-mul-t169 Inv-loop μ-loop
+mul-t169 c = search needs
 
 element-set-from-dma : tie.Need-element-set-from-dma Inv-loop μ-loop
 element-set-from-dma c = search needs
@@ -648,4 +648,4 @@ returns c =
     in (rw (← e) (l .inv .3), (rw (← e) (l .inv .4), rw (← e) (l .inv .5)))
 
 pub run-spec : {M : Type 1} → statement M
-run-spec = tie.close (tie.spec Inv-loop μ-loop count-bytes-requires least-requires levels-requires loop-holds record-at-requires array-read-op decode-requires enum-known-d enum-told tell-requires add-i loop-less loop-again is-blocked-requires tell-requires-2 add-i-2 loop-less-2 loop-again-2 enum-told-2 reset-requires reset-requires-2 reset-requires-3 tell-requires-3 add-i-3 loop-less-3 loop-again-3 enum-known-o write-icu-requires levels-at-requires tell-requires-4 add-i-4 loop-less-4 loop-again-4 write-requires rewire-requires tell-requires-5 add-i-5 loop-less-5 loop-again-5 tell-requires-6 add-i-6 loop-less-6 loop-again-6 write-requires-2 tell-requires-7 add-i-7 loop-less-7 loop-again-7 tell-requires-8 add-i-8 loop-less-8 loop-again-8 enum-known-o-2 lines-at-requires read-icu-requires tell-requires-9 add-i-9 loop-less-9 loop-again-9 cast-n mul-c element-copy-out-c look-requires mul-c-2 element-set-from-c tell-requires-10 add-i-10 loop-less-10 loop-again-10 look-requires-2 tell-requires-11 add-i-11 loop-less-11 loop-again-11 enum-known-o-3 rewire-requires-2 tell-requires-12 add-i-12 loop-less-12 loop-again-12 enum-known-o-4 set-gates-requires rewire-requires-3 tell-requires-13 add-i-13 loop-less-13 loop-again-13 enum-known-o-5 set-requests-requires tell-requires-14 add-i-14 loop-less-14 loop-again-14 enum-told-3 lines-at-requires-2 acknowledge-requires levels-at-requires-2 tell-requires-15 add-i-15 loop-less-15 loop-again-15 enum-known-o-6 run-pulses-requires levels-at-requires-3 rises-payload-requires tell-requires-16 add-i-16 loop-less-16 loop-again-16 enum-known-o-7 cast-at mul-c-3 element-copy-out-c-2 is-plain-requires transfer-requires advance-requires mul-t178 element-set-from-dma moved-payload-requires tell-requires-17 add-i-17 loop-less-17 loop-again-17 cycle-requires byte-moved-requires payload-requires tell-requires-18 add-i-18 loop-less-18 loop-again-18 same-length same-length-2 returns)
+run-spec = tie.close (tie.spec Inv-loop μ-loop count-bytes-requires least-requires levels-requires loop-holds record-at-requires array-read-op decode-requires enum-known-d enum-told tell-requires add-i loop-less loop-again is-blocked-requires tell-requires-2 add-i-2 loop-less-2 loop-again-2 enum-told-2 reset-requires reset-requires-2 reset-requires-3 tell-requires-3 add-i-3 loop-less-3 loop-again-3 enum-known-o write-icu-requires levels-at-requires tell-requires-4 add-i-4 loop-less-4 loop-again-4 write-requires rewire-requires tell-requires-5 add-i-5 loop-less-5 loop-again-5 tell-requires-6 add-i-6 loop-less-6 loop-again-6 write-requires-2 tell-requires-7 add-i-7 loop-less-7 loop-again-7 tell-requires-8 add-i-8 loop-less-8 loop-again-8 enum-known-o-2 lines-at-requires read-icu-requires tell-requires-9 add-i-9 loop-less-9 loop-again-9 cast-n mul-c element-copy-out-c look-requires mul-c-2 element-set-from-c tell-requires-10 add-i-10 loop-less-10 loop-again-10 look-requires-2 tell-requires-11 add-i-11 loop-less-11 loop-again-11 enum-known-o-3 rewire-requires-2 tell-requires-12 add-i-12 loop-less-12 loop-again-12 enum-known-o-4 set-gates-requires rewire-requires-3 tell-requires-13 add-i-13 loop-less-13 loop-again-13 enum-known-o-5 set-requests-requires tell-requires-14 add-i-14 loop-less-14 loop-again-14 enum-told-3 lines-at-requires-2 acknowledge-requires levels-at-requires-2 tell-requires-15 add-i-15 loop-less-15 loop-again-15 enum-known-o-6 run-pulses-requires levels-at-requires-3 rises-payload-requires tell-requires-16 add-i-16 loop-less-16 loop-again-16 enum-known-o-7 cast-at mul-c-3 element-copy-out-c-2 is-plain-requires transfer-requires advance-requires mul-t169 element-set-from-dma moved-payload-requires tell-requires-17 add-i-17 loop-less-17 loop-again-17 cycle-requires byte-moved-requires payload-requires tell-requires-18 add-i-18 loop-less-18 loop-again-18 same-length same-length-2 returns)
