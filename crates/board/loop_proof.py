@@ -201,11 +201,10 @@ def again(w, law, lent):
     let p = {w.last('tell')} in
     let q = {w('record-at')} in
     let n : Board = record {{ icu = l .icu; intp = l .intp; timer = l .timer; dma = l .dma; kept = a .self .kept }} in
-    let t = {law(w)} in
-    let u =
-    turn (a .self) (a .memory .now) (take (a .size) (a .kept) ++ a .tape .now) (l .i) n _ (l .memory) (q .result) ({memory}) (l .answers) (p .last .0) (a .answers .now) _
-    (l .inv .3) (l .inv .4) (l .inv .5) (q .ensures) (t .0) (t .1) (t .2) (p .ensures)
-    in (omega (arith, {w('loop-test')} .taken), {kept}, p .kept .0 ∙ l .inv .2, u .0, u .1, u .2, t .3)"""
+    round (a .self) (a .memory .now) (take (a .size) (a .kept) ++ a .tape .now)
+    (omega (arith, {w('loop-test')} .taken)) ({kept}) (p .kept .0 ∙ l .inv .2)
+    (l .i) n _ (l .memory) (q .result) ({memory}) (l .answers) (p .last .0) (a .answers .now) _ _
+    (l .inv .3) (l .inv .4) (l .inv .5) (q .ensures) ({law(w)}) (p .ensures)"""
 
 
 # ---- the other needs
@@ -255,7 +254,7 @@ use Rattle.tape.proofs.Decodes.{read-counter}
 use Rattle.board.specs.declared.Board.{Board}
 use Rattle.board.specs.Wiring.{levelsOf}
 use Rattle.board.specs.Records.{after, fitting}
-use Rattle.board.proofs.Runs.{turn}
+use Rattle.board.proofs.Runs.{round}
 use Rattle.board.proofs.Arms.{%s}
 use Rattle.board.proofs.Board.run.Statement.{statement}
 use Rattle.board.proofs.Board.run.Tie as tie

@@ -46,6 +46,7 @@ use Rattle.board.specs.declared.Run.{Run}
 use Rattle.board.specs.Wiring.{icu-is, timer-is, dma-is, lines, linesAt, levelsOf, levelsAt, resetOf, rewired, wiredTo}
 use Rattle.board.specs.Operations.{Outcome, done, telling, refused, icuTold, turnOf, a0, icuWritten, icuShown, acknowledged, timerWritten, timerShown, dmaWritten, dmaShown, writeOf, readOf, flagOf, payloadOf, cycleOf, cycleMemory}
 use Rattle.board.specs.Advance.{advancedOf, risesPayload, advanceOf}
+use Rattle.board.proofs.Runs.{Turned}
 use Rattle.board.specs.Step.{executeOf, memoryAfter, blocked, outcomeOf, memoryOf, answeredOf, stepOf, stepMemory}
 
 -- A read leaves the interrupt chip as it was.
@@ -60,11 +61,6 @@ read-leaves c k x = by (IcuWords.ready c) k (c .showsisr)
     by true false true = refl
     by true false false = refl
     by false q s = refl
-
--- A turn of the loop over the record r that leaves board b′, memory m′ and levels l and puts the answer x does what the record's step does.
-abbrev pub Turned : Board → List ℕ → List ℕ → Board → List ℕ → ℕ → List ℕ → Type 0
-Turned b r m b′ m′ l x =
-    (b′ ≡ stepOf b r m .board) × (m′ ≡ stepMemory b r m) × (x ≡ stepOf b r m .answer) × (l ≡ levelsOf b′)
 
 module _ (b : Board) where
   -- what a chip shows is told, or refused by number with nothing shown and nothing changed

@@ -9,6 +9,7 @@ use lib.Seq.{paste, drop-length}
 use Rattle.tape.specs.Answers.{answerOf}
 use Rattle.board.specs.declared.Board.{Board}
 use Rattle.board.specs.declared.Stepped.{Stepped}
+use Rattle.board.specs.Wiring.{levelsOf}
 use Rattle.board.specs.Step.{stepOf, stepMemory, answeredOf}
 use Rattle.board.specs.Records.{Run, after, next, recordAt, fitting}
 use Rattle.board.proofs.Lists.{put-next}
@@ -17,6 +18,11 @@ use Rattle.board.proofs.Lists.{put-next}
 pub sixteen : (b : Board) (r m : List ℕ) → length (stepOf b r m .answer) ≡ 16
 unfolding stepOf answeredOf answerOf
 sixteen b r m = refl
+
+-- A turn of the loop over the record r that leaves board b′, memory m′ and levels l and puts the answer x does what the record's step does.
+abbrev pub Turned : Board → List ℕ → List ℕ → Board → List ℕ → ℕ → List ℕ → Type 0
+Turned b r m b′ m′ l x =
+    (b′ ≡ stepOf b r m .board) × (m′ ≡ stepMemory b r m) × (x ≡ stepOf b r m .answer) × (l ≡ levelsOf b′)
 
 module _ (b : Board) (m t : List ℕ) where
   -- one record more
@@ -32,29 +38,37 @@ module _ (b : Board) (m t : List ℕ) where
       length-append (s .answers) (stepOf (s .board) (recordAt t i) (s .memory) .answer)
       ∙ omega (arith, answered i, sixteen (s .board) (recordAt t i) (s .memory))
 
-  -- one record more, and its answer put after those before it
-  pub turn : (i : ℕ) (n n′ : Board) (mem r mem′ a a′ a₀ x : List ℕ)
+  -- one record more: a turn of the loop that does what its record's step does, with the answer put after those before it. (What else holds at the loop's
+  -- head is handed on, so that the proof of an arm is this law and nothing around it.)
+  pub round : {P Q R : Type 0} → P → Q → R → (i : ℕ) (n n′ : Board) (mem r mem′ a a′ a₀ : List ℕ) (l : ℕ) (x : List ℕ)
       → n ≡ after b m t i .board
       → mem ≡ after b m t i .memory
       → a ≡ after b m t i .answers ++ drop (16 * i) a₀
       → r ≡ recordAt t i
-      → n′ ≡ stepOf n r mem .board
-      → mem′ ≡ stepMemory n r mem
-      → x ≡ stepOf n r mem .answer
+      → Turned n r mem n′ mem′ l x
       → a′ ≡ paste a (16 * i) x 16
-      → (n′ ≡ after b m t (i + 1) .board)
+      → P
+      × Q
+      × R
+      × (n′ ≡ after b m t (i + 1) .board)
       × (mem′ ≡ after b m t (i + 1) .memory)
       × (a′ ≡ after b m t (i + 1) .answers ++ drop (16 * (i + 1)) a₀)
-  turn i n n′ mem r mem′ a a′ a₀ x en em ea er en′ em′ ex ea′ =
+      × (l ≡ levelsOf n′)
+  round p₀ p₁ p₂ i n n′ mem r mem′ a a′ a₀ l x en em ea er k ea′ =
       let s = stepOf (after b m t i .board) (recordAt t i) (after b m t i .memory) in
       let q : stepOf n r mem ≡ s = cc in
+      let em′ = k .1 in
       rw (more i) (
-        en′ ∙ ap (λ (y : Stepped). y .board) q,
+        p₀,
+        p₁,
+        p₂,
+        k .0 ∙ ap (λ (y : Stepped). y .board) q,
         cc,
         ea′
             ∙ ap (λ (l : List ℕ). paste l (16 * i) x 16) ea
-            ∙ ap (λ (y : List ℕ). paste (after b m t i .answers ++ drop (16 * i) a₀) (16 * i) y 16) (ex ∙ ap (λ (y : Stepped). y .answer) q)
+            ∙ ap (λ (y : List ℕ). paste (after b m t i .answers ++ drop (16 * i) a₀) (16 * i) y 16) (k .2 ∙ ap (λ (y : Stepped). y .answer) q)
             ∙ put-next (after b m t i .answers) a₀ (s .answer) i (answered i) (sixteen _ _ _),
+        k .3,
       )
 
 -- One record alone: its own bytes, with none kept before them, and room for its answer.

@@ -11,7 +11,7 @@ use Rattle.tape.proofs.Decodes.{read-counter}
 use Rattle.board.specs.declared.Board.{Board}
 use Rattle.board.specs.Wiring.{levelsOf}
 use Rattle.board.specs.Records.{after, fitting}
-use Rattle.board.proofs.Runs.{turn}
+use Rattle.board.proofs.Runs.{round}
 use Rattle.board.proofs.Arms.{malformed, held-up, reset, wrote-icu, wrote-timer, refused-timer, wrote-dma, refused-dma, read-icu, read-timer, read-dma, intp, gates, requests, acknowledge, advance, plain-unit, cycle-by-call}
 use Rattle.board.proofs.Board.run.Statement.{statement}
 use Rattle.board.proofs.Board.run.Tie as tie
@@ -106,11 +106,10 @@ loop-again c =
     let p = c .before .before .tell in
     let q = c .before .before .before .before .before .before .before .record-at in
     let n : Board = record { icu = l .icu; intp = l .intp; timer = l .timer; dma = l .dma; kept = a .self .kept } in
-    let t = malformed n (q .result) (l .memory) (l .levels) (l .inv .6) (sym (c .before .before .before .before .before .before .decode .ensures) ∙ c .before .before .before .before .enum-told .given .1) in
-    let u =
-    turn (a .self) (a .memory .now) (take (a .size) (a .kept) ++ a .tape .now) (l .i) n _ (l .memory) (q .result) (l .memory) (l .answers) (p .last .0) (a .answers .now) _
-    (l .inv .3) (l .inv .4) (l .inv .5) (q .ensures) (t .0) (t .1) (t .2) (p .ensures)
-    in (omega (arith, c .before .before .before .before .before .before .before .before .loop-test .taken), l .inv .1, p .kept .0 ∙ l .inv .2, u .0, u .1, u .2, t .3)
+    round (a .self) (a .memory .now) (take (a .size) (a .kept) ++ a .tape .now)
+    (omega (arith, c .before .before .before .before .before .before .before .before .loop-test .taken)) (l .inv .1) (p .kept .0 ∙ l .inv .2)
+    (l .i) n _ (l .memory) (q .result) (l .memory) (l .answers) (p .last .0) (a .answers .now) _ _
+    (l .inv .3) (l .inv .4) (l .inv .5) (q .ensures) (malformed n (q .result) (l .memory) (l .levels) (l .inv .6) (sym (c .before .before .before .before .before .before .decode .ensures) ∙ c .before .before .before .before .enum-told .given .1)) (p .ensures)
 
 is-blocked-requires : tie.Need-is-blocked-requires Inv-loop μ-loop
 is-blocked-requires c κs = search needs
@@ -131,11 +130,10 @@ loop-again-2 c =
     let p = c .before .before .tell2 in
     let q = c .before .before .before .before .before .before .before .before .before .before .record-at in
     let n : Board = record { icu = l .icu; intp = l .intp; timer = l .timer; dma = l .dma; kept = a .self .kept } in
-    let t = held-up n (q .result) (l .memory) (l .levels) (l .inv .6) _ (sym (c .before .before .before .before .before .before .before .before .before .decode .ensures) ∙ c .before .before .before .before .before .before .before .d .given .1) (sym (c .before .before .before .before .before .is-blocked .ensures) ∙ c .before .before .before .before .if1 .taken) in
-    let u =
-    turn (a .self) (a .memory .now) (take (a .size) (a .kept) ++ a .tape .now) (l .i) n _ (l .memory) (q .result) (l .memory) (l .answers) (p .last .0) (a .answers .now) _
-    (l .inv .3) (l .inv .4) (l .inv .5) (q .ensures) (t .0) (t .1) (t .2) (p .ensures)
-    in (omega (arith, c .before .before .before .before .before .before .before .before .before .before .before .loop-test .taken), l .inv .1, p .kept .0 ∙ l .inv .2, u .0, u .1, u .2, t .3)
+    round (a .self) (a .memory .now) (take (a .size) (a .kept) ++ a .tape .now)
+    (omega (arith, c .before .before .before .before .before .before .before .before .before .before .before .loop-test .taken)) (l .inv .1) (p .kept .0 ∙ l .inv .2)
+    (l .i) n _ (l .memory) (q .result) (l .memory) (l .answers) (p .last .0) (a .answers .now) _ _
+    (l .inv .3) (l .inv .4) (l .inv .5) (q .ensures) (held-up n (q .result) (l .memory) (l .levels) (l .inv .6) _ (sym (c .before .before .before .before .before .before .before .before .before .decode .ensures) ∙ c .before .before .before .before .before .before .before .d .given .1) (sym (c .before .before .before .before .before .is-blocked .ensures) ∙ c .before .before .before .before .if1 .taken)) (p .ensures)
 
 enum-told-2 : tie.Need-enum-told-2 Inv-loop μ-loop
 enum-told-2 c = search needs
@@ -165,11 +163,10 @@ loop-again-3 c =
     let p = c .before .before .tell3 in
     let q = c .before .before .before .before .before .before .before .before .before .before .before .before .before .before .before .record-at in
     let n : Board = record { icu = l .icu; intp = l .intp; timer = l .timer; dma = l .dma; kept = a .self .kept } in
-    let t = reset n (q .result) (l .memory) (l .levels) (l .inv .6) _ (sym (c .before .before .before .before .before .before .before .before .before .before .before .before .before .before .decode .ensures) ∙ c .before .before .before .before .before .before .before .before .before .before .before .before .d .given .1) (sym (c .before .before .before .before .before .before .before .before .before .before .is-blocked .ensures) ∙ c .before .before .before .before .before .before .before .before .before .if1 .left) (c .before .before .before .before .before .before .before .enum-told2 .given .1) _ _ _ (c .before .before .before .before .before .before .reset .ensures) (c .before .before .before .before .before .reset2 .ensures) (c .before .before .before .before .reset3 .ensures) in
-    let u =
-    turn (a .self) (a .memory .now) (take (a .size) (a .kept) ++ a .tape .now) (l .i) n _ (l .memory) (q .result) (l .memory) (l .answers) (p .last .0) (a .answers .now) _
-    (l .inv .3) (l .inv .4) (l .inv .5) (q .ensures) (t .0) (t .1) (t .2) (p .ensures)
-    in (omega (arith, c .before .before .before .before .before .before .before .before .before .before .before .before .before .before .before .before .loop-test .taken), l .inv .1, p .kept .0 ∙ l .inv .2, u .0, u .1, u .2, t .3)
+    round (a .self) (a .memory .now) (take (a .size) (a .kept) ++ a .tape .now)
+    (omega (arith, c .before .before .before .before .before .before .before .before .before .before .before .before .before .before .before .before .loop-test .taken)) (l .inv .1) (p .kept .0 ∙ l .inv .2)
+    (l .i) n _ (l .memory) (q .result) (l .memory) (l .answers) (p .last .0) (a .answers .now) _ _
+    (l .inv .3) (l .inv .4) (l .inv .5) (q .ensures) (reset n (q .result) (l .memory) (l .levels) (l .inv .6) _ (sym (c .before .before .before .before .before .before .before .before .before .before .before .before .before .before .decode .ensures) ∙ c .before .before .before .before .before .before .before .before .before .before .before .before .d .given .1) (sym (c .before .before .before .before .before .before .before .before .before .before .is-blocked .ensures) ∙ c .before .before .before .before .before .before .before .before .before .if1 .left) (c .before .before .before .before .before .before .before .enum-told2 .given .1) _ _ _ (c .before .before .before .before .before .before .reset .ensures) (c .before .before .before .before .before .reset2 .ensures) (c .before .before .before .before .reset3 .ensures)) (p .ensures)
 
 enum-known-o : tie.Need-enum-known-o Inv-loop μ-loop
 enum-known-o c = search needs
@@ -196,11 +193,10 @@ loop-again-4 c =
     let p = c .before .before .tell4 in
     let q = c .before .before .before .before .before .before .before .before .before .before .before .before .before .before .before .before .before .before .record-at in
     let n : Board = record { icu = l .icu; intp = l .intp; timer = l .timer; dma = l .dma; kept = a .self .kept } in
-    let t = wrote-icu n (q .result) (l .memory) (l .levels) (l .inv .6) _ (sym (c .before .before .before .before .before .before .before .before .before .before .before .before .before .before .before .before .before .decode .ensures) ∙ c .before .before .before .before .before .before .before .before .before .before .before .before .before .before .before .d .given .1) (sym (c .before .before .before .before .before .before .before .before .before .before .before .before .before .is-blocked .ensures) ∙ c .before .before .before .before .before .before .before .before .before .before .before .before .if1 .left) _ _ (c .before .before .before .before .before .before .before .before .before .before .o .given .1) (c .before .before .before .before .before .before .before .before .if2 .taken) _ _ (c .before .before .before .before .before .before .before .write-icu .ensures) (c .before .before .before .before .levels-at .ensures) in
-    let u =
-    turn (a .self) (a .memory .now) (take (a .size) (a .kept) ++ a .tape .now) (l .i) n _ (l .memory) (q .result) (l .memory) (l .answers) (p .last .0) (a .answers .now) _
-    (l .inv .3) (l .inv .4) (l .inv .5) (q .ensures) (t .0) (t .1) (t .2) (p .ensures)
-    in (omega (arith, c .before .before .before .before .before .before .before .before .before .before .before .before .before .before .before .before .before .before .before .loop-test .taken), l .inv .1, p .kept .0 ∙ l .inv .2, u .0, u .1, u .2, t .3)
+    round (a .self) (a .memory .now) (take (a .size) (a .kept) ++ a .tape .now)
+    (omega (arith, c .before .before .before .before .before .before .before .before .before .before .before .before .before .before .before .before .before .before .before .loop-test .taken)) (l .inv .1) (p .kept .0 ∙ l .inv .2)
+    (l .i) n _ (l .memory) (q .result) (l .memory) (l .answers) (p .last .0) (a .answers .now) _ _
+    (l .inv .3) (l .inv .4) (l .inv .5) (q .ensures) (wrote-icu n (q .result) (l .memory) (l .levels) (l .inv .6) _ (sym (c .before .before .before .before .before .before .before .before .before .before .before .before .before .before .before .before .before .decode .ensures) ∙ c .before .before .before .before .before .before .before .before .before .before .before .before .before .before .before .d .given .1) (sym (c .before .before .before .before .before .before .before .before .before .before .before .before .before .is-blocked .ensures) ∙ c .before .before .before .before .before .before .before .before .before .before .before .before .if1 .left) _ _ (c .before .before .before .before .before .before .before .before .before .before .o .given .1) (c .before .before .before .before .before .before .before .before .if2 .taken) _ _ (c .before .before .before .before .before .before .before .write-icu .ensures) (c .before .before .before .before .levels-at .ensures)) (p .ensures)
 
 write-requires : tie.Need-write-requires Inv-loop μ-loop
 write-requires c κs = search needs
@@ -224,11 +220,10 @@ loop-again-5 c =
     let p = c .before .before .tell5 in
     let q = c .before .before .before .before .before .before .before .before .before .before .before .before .before .before .before .before .before .before .before .before .before .record-at in
     let n : Board = record { icu = l .icu; intp = l .intp; timer = l .timer; dma = l .dma; kept = a .self .kept } in
-    let t = wrote-timer n (q .result) (l .memory) (l .levels) (l .inv .6) _ (sym (c .before .before .before .before .before .before .before .before .before .before .before .before .before .before .before .before .before .before .before .before .decode .ensures) ∙ c .before .before .before .before .before .before .before .before .before .before .before .before .before .before .before .before .before .before .d .given .1) (sym (c .before .before .before .before .before .before .before .before .before .before .before .before .before .before .before .before .is-blocked .ensures) ∙ c .before .before .before .before .before .before .before .before .before .before .before .before .before .before .before .if1 .left) _ _ (c .before .before .before .before .before .before .before .before .before .before .before .before .before .o .given .1) (c .before .before .before .before .before .before .before .before .before .before .before .if2 .left) (c .before .before .before .before .before .before .before .before .before .before .if3 .taken) _ (c .before .before .before .before .before .before .before .before .before .write .ensures) (c .before .before .before .before .before .before .before .if4 .taken) _ (c .before .before .before .before .before .rewire .ensures) in
-    let u =
-    turn (a .self) (a .memory .now) (take (a .size) (a .kept) ++ a .tape .now) (l .i) n _ (l .memory) (q .result) (l .memory) (l .answers) (p .last .0) (a .answers .now) _
-    (l .inv .3) (l .inv .4) (l .inv .5) (q .ensures) (t .0) (t .1) (t .2) (p .ensures)
-    in (omega (arith, c .before .before .before .before .before .before .before .before .before .before .before .before .before .before .before .before .before .before .before .before .before .before .loop-test .taken), l .inv .1, p .kept .0 ∙ l .inv .2, u .0, u .1, u .2, t .3)
+    round (a .self) (a .memory .now) (take (a .size) (a .kept) ++ a .tape .now)
+    (omega (arith, c .before .before .before .before .before .before .before .before .before .before .before .before .before .before .before .before .before .before .before .before .before .before .loop-test .taken)) (l .inv .1) (p .kept .0 ∙ l .inv .2)
+    (l .i) n _ (l .memory) (q .result) (l .memory) (l .answers) (p .last .0) (a .answers .now) _ _
+    (l .inv .3) (l .inv .4) (l .inv .5) (q .ensures) (wrote-timer n (q .result) (l .memory) (l .levels) (l .inv .6) _ (sym (c .before .before .before .before .before .before .before .before .before .before .before .before .before .before .before .before .before .before .before .before .decode .ensures) ∙ c .before .before .before .before .before .before .before .before .before .before .before .before .before .before .before .before .before .before .d .given .1) (sym (c .before .before .before .before .before .before .before .before .before .before .before .before .before .before .before .before .is-blocked .ensures) ∙ c .before .before .before .before .before .before .before .before .before .before .before .before .before .before .before .if1 .left) _ _ (c .before .before .before .before .before .before .before .before .before .before .before .before .before .o .given .1) (c .before .before .before .before .before .before .before .before .before .before .before .if2 .left) (c .before .before .before .before .before .before .before .before .before .before .if3 .taken) _ (c .before .before .before .before .before .before .before .before .before .write .ensures) (c .before .before .before .before .before .before .before .if4 .taken) _ (c .before .before .before .before .before .rewire .ensures)) (p .ensures)
 
 tell-requires-6 : tie.Need-tell-requires-6 Inv-loop μ-loop
 tell-requires-6 c κs = omega (arith, c .before .before .before .before .before .before .before .before .before .before .before .before .before .before .before .before .before .loop .inv .2, c .before .before .before .before .before .before .before .before .before .before .before .before .before .before .before .before .before .before .before .before .before .before .least .ensures .1 .1, c .before .before .before .before .before .before .before .before .before .before .before .before .before .before .before .before .loop-test .taken)
@@ -246,11 +241,10 @@ loop-again-6 c =
     let p = c .before .before .tell6 in
     let q = c .before .before .before .before .before .before .before .before .before .before .before .before .before .before .before .before .before .before .record-at in
     let n : Board = record { icu = l .icu; intp = l .intp; timer = l .timer; dma = l .dma; kept = a .self .kept } in
-    let t = refused-timer n (q .result) (l .memory) (l .levels) (l .inv .6) _ (sym (c .before .before .before .before .before .before .before .before .before .before .before .before .before .before .before .before .before .decode .ensures) ∙ c .before .before .before .before .before .before .before .before .before .before .before .before .before .before .before .d .given .1) (sym (c .before .before .before .before .before .before .before .before .before .before .before .before .before .is-blocked .ensures) ∙ c .before .before .before .before .before .before .before .before .before .before .before .before .if1 .left) _ _ (c .before .before .before .before .before .before .before .before .before .before .o .given .1) (c .before .before .before .before .before .before .before .before .if2 .left) (c .before .before .before .before .before .before .before .if3 .taken) _ (c .before .before .before .before .before .before .write .ensures) (c .before .before .before .before .if4 .left) in
-    let u =
-    turn (a .self) (a .memory .now) (take (a .size) (a .kept) ++ a .tape .now) (l .i) n _ (l .memory) (q .result) (l .memory) (l .answers) (p .last .0) (a .answers .now) _
-    (l .inv .3) (l .inv .4) (l .inv .5) (q .ensures) (t .0) (t .1) (t .2) (p .ensures)
-    in (omega (arith, c .before .before .before .before .before .before .before .before .before .before .before .before .before .before .before .before .before .before .before .loop-test .taken), l .inv .1, p .kept .0 ∙ l .inv .2, u .0, u .1, u .2, t .3)
+    round (a .self) (a .memory .now) (take (a .size) (a .kept) ++ a .tape .now)
+    (omega (arith, c .before .before .before .before .before .before .before .before .before .before .before .before .before .before .before .before .before .before .before .loop-test .taken)) (l .inv .1) (p .kept .0 ∙ l .inv .2)
+    (l .i) n _ (l .memory) (q .result) (l .memory) (l .answers) (p .last .0) (a .answers .now) _ _
+    (l .inv .3) (l .inv .4) (l .inv .5) (q .ensures) (refused-timer n (q .result) (l .memory) (l .levels) (l .inv .6) _ (sym (c .before .before .before .before .before .before .before .before .before .before .before .before .before .before .before .before .before .decode .ensures) ∙ c .before .before .before .before .before .before .before .before .before .before .before .before .before .before .before .d .given .1) (sym (c .before .before .before .before .before .before .before .before .before .before .before .before .before .is-blocked .ensures) ∙ c .before .before .before .before .before .before .before .before .before .before .before .before .if1 .left) _ _ (c .before .before .before .before .before .before .before .before .before .before .o .given .1) (c .before .before .before .before .before .before .before .before .if2 .left) (c .before .before .before .before .before .before .before .if3 .taken) _ (c .before .before .before .before .before .before .write .ensures) (c .before .before .before .before .if4 .left)) (p .ensures)
 
 write-requires-2 : tie.Need-write-requires-2 Inv-loop μ-loop
 write-requires-2 c κs = search needs
@@ -271,11 +265,10 @@ loop-again-7 c =
     let p = c .before .before .tell7 in
     let q = c .before .before .before .before .before .before .before .before .before .before .before .before .before .before .before .before .before .before .before .record-at in
     let n : Board = record { icu = l .icu; intp = l .intp; timer = l .timer; dma = l .dma; kept = a .self .kept } in
-    let t = wrote-dma n (q .result) (l .memory) (l .levels) (l .inv .6) _ (sym (c .before .before .before .before .before .before .before .before .before .before .before .before .before .before .before .before .before .before .decode .ensures) ∙ c .before .before .before .before .before .before .before .before .before .before .before .before .before .before .before .before .d .given .1) (sym (c .before .before .before .before .before .before .before .before .before .before .before .before .before .before .is-blocked .ensures) ∙ c .before .before .before .before .before .before .before .before .before .before .before .before .before .if1 .left) _ _ (c .before .before .before .before .before .before .before .before .before .before .before .o .given .1) (c .before .before .before .before .before .before .before .before .before .if2 .left) (c .before .before .before .before .before .before .before .before .if3 .left) _ (c .before .before .before .before .before .before .before .write2 .ensures) (c .before .before .before .before .before .if5 .taken) in
-    let u =
-    turn (a .self) (a .memory .now) (take (a .size) (a .kept) ++ a .tape .now) (l .i) n _ (l .memory) (q .result) (l .memory) (l .answers) (p .last .0) (a .answers .now) _
-    (l .inv .3) (l .inv .4) (l .inv .5) (q .ensures) (t .0) (t .1) (t .2) (p .ensures)
-    in (omega (arith, c .before .before .before .before .before .before .before .before .before .before .before .before .before .before .before .before .before .before .before .before .loop-test .taken), l .inv .1, p .kept .0 ∙ l .inv .2, u .0, u .1, u .2, t .3)
+    round (a .self) (a .memory .now) (take (a .size) (a .kept) ++ a .tape .now)
+    (omega (arith, c .before .before .before .before .before .before .before .before .before .before .before .before .before .before .before .before .before .before .before .before .loop-test .taken)) (l .inv .1) (p .kept .0 ∙ l .inv .2)
+    (l .i) n _ (l .memory) (q .result) (l .memory) (l .answers) (p .last .0) (a .answers .now) _ _
+    (l .inv .3) (l .inv .4) (l .inv .5) (q .ensures) (wrote-dma n (q .result) (l .memory) (l .levels) (l .inv .6) _ (sym (c .before .before .before .before .before .before .before .before .before .before .before .before .before .before .before .before .before .before .decode .ensures) ∙ c .before .before .before .before .before .before .before .before .before .before .before .before .before .before .before .before .d .given .1) (sym (c .before .before .before .before .before .before .before .before .before .before .before .before .before .before .is-blocked .ensures) ∙ c .before .before .before .before .before .before .before .before .before .before .before .before .before .if1 .left) _ _ (c .before .before .before .before .before .before .before .before .before .before .before .o .given .1) (c .before .before .before .before .before .before .before .before .before .if2 .left) (c .before .before .before .before .before .before .before .before .if3 .left) _ (c .before .before .before .before .before .before .before .write2 .ensures) (c .before .before .before .before .before .if5 .taken)) (p .ensures)
 
 tell-requires-8 : tie.Need-tell-requires-8 Inv-loop μ-loop
 tell-requires-8 c κs = omega (arith, c .before .before .before .before .before .before .before .before .before .before .before .before .before .before .before .before .before .loop .inv .2, c .before .before .before .before .before .before .before .before .before .before .before .before .before .before .before .before .before .before .before .before .before .before .least .ensures .1 .1, c .before .before .before .before .before .before .before .before .before .before .before .before .before .before .before .before .loop-test .taken)
@@ -293,11 +286,10 @@ loop-again-8 c =
     let p = c .before .before .tell8 in
     let q = c .before .before .before .before .before .before .before .before .before .before .before .before .before .before .before .before .before .before .record-at in
     let n : Board = record { icu = l .icu; intp = l .intp; timer = l .timer; dma = l .dma; kept = a .self .kept } in
-    let t = refused-dma n (q .result) (l .memory) (l .levels) (l .inv .6) _ (sym (c .before .before .before .before .before .before .before .before .before .before .before .before .before .before .before .before .before .decode .ensures) ∙ c .before .before .before .before .before .before .before .before .before .before .before .before .before .before .before .d .given .1) (sym (c .before .before .before .before .before .before .before .before .before .before .before .before .before .is-blocked .ensures) ∙ c .before .before .before .before .before .before .before .before .before .before .before .before .if1 .left) _ _ (c .before .before .before .before .before .before .before .before .before .before .o .given .1) (c .before .before .before .before .before .before .before .before .if2 .left) (c .before .before .before .before .before .before .before .if3 .left) _ (c .before .before .before .before .before .before .write2 .ensures) (c .before .before .before .before .if5 .left) in
-    let u =
-    turn (a .self) (a .memory .now) (take (a .size) (a .kept) ++ a .tape .now) (l .i) n _ (l .memory) (q .result) (l .memory) (l .answers) (p .last .0) (a .answers .now) _
-    (l .inv .3) (l .inv .4) (l .inv .5) (q .ensures) (t .0) (t .1) (t .2) (p .ensures)
-    in (omega (arith, c .before .before .before .before .before .before .before .before .before .before .before .before .before .before .before .before .before .before .before .loop-test .taken), l .inv .1, p .kept .0 ∙ l .inv .2, u .0, u .1, u .2, t .3)
+    round (a .self) (a .memory .now) (take (a .size) (a .kept) ++ a .tape .now)
+    (omega (arith, c .before .before .before .before .before .before .before .before .before .before .before .before .before .before .before .before .before .before .before .loop-test .taken)) (l .inv .1) (p .kept .0 ∙ l .inv .2)
+    (l .i) n _ (l .memory) (q .result) (l .memory) (l .answers) (p .last .0) (a .answers .now) _ _
+    (l .inv .3) (l .inv .4) (l .inv .5) (q .ensures) (refused-dma n (q .result) (l .memory) (l .levels) (l .inv .6) _ (sym (c .before .before .before .before .before .before .before .before .before .before .before .before .before .before .before .before .before .decode .ensures) ∙ c .before .before .before .before .before .before .before .before .before .before .before .before .before .before .before .d .given .1) (sym (c .before .before .before .before .before .before .before .before .before .before .before .before .before .is-blocked .ensures) ∙ c .before .before .before .before .before .before .before .before .before .before .before .before .if1 .left) _ _ (c .before .before .before .before .before .before .before .before .before .before .o .given .1) (c .before .before .before .before .before .before .before .before .if2 .left) (c .before .before .before .before .before .before .before .if3 .left) _ (c .before .before .before .before .before .before .write2 .ensures) (c .before .before .before .before .if5 .left)) (p .ensures)
 
 enum-known-o-2 : tie.Need-enum-known-o-2 Inv-loop μ-loop
 enum-known-o-2 c = search needs
@@ -324,11 +316,10 @@ loop-again-9 c =
     let p = c .before .before .tell9 in
     let q = c .before .before .before .before .before .before .before .before .before .before .before .before .before .before .before .before .before .record-at in
     let n : Board = record { icu = l .icu; intp = l .intp; timer = l .timer; dma = l .dma; kept = a .self .kept } in
-    let t = read-icu n (q .result) (l .memory) (l .levels) (l .inv .6) _ (sym (c .before .before .before .before .before .before .before .before .before .before .before .before .before .before .before .before .decode .ensures) ∙ c .before .before .before .before .before .before .before .before .before .before .before .before .before .before .d .given .1) (sym (c .before .before .before .before .before .before .before .before .before .before .before .before .is-blocked .ensures) ∙ c .before .before .before .before .before .before .before .before .before .before .before .if1 .left) _ (c .before .before .before .before .before .before .before .before .before .o2 .given .1) (c .before .before .before .before .before .before .before .if6 .taken) _ (c .before .before .before .before .before .before .lines-at .ensures) _ (c .before .before .before .before .before .read-icu .ensures) in
-    let u =
-    turn (a .self) (a .memory .now) (take (a .size) (a .kept) ++ a .tape .now) (l .i) n _ (l .memory) (q .result) (l .memory) (l .answers) (p .last .0) (a .answers .now) _
-    (l .inv .3) (l .inv .4) (l .inv .5) (q .ensures) (t .0) (t .1) (t .2) (p .ensures)
-    in (omega (arith, c .before .before .before .before .before .before .before .before .before .before .before .before .before .before .before .before .before .before .loop-test .taken), l .inv .1, p .kept .0 ∙ l .inv .2, u .0, u .1, u .2, t .3)
+    round (a .self) (a .memory .now) (take (a .size) (a .kept) ++ a .tape .now)
+    (omega (arith, c .before .before .before .before .before .before .before .before .before .before .before .before .before .before .before .before .before .before .loop-test .taken)) (l .inv .1) (p .kept .0 ∙ l .inv .2)
+    (l .i) n _ (l .memory) (q .result) (l .memory) (l .answers) (p .last .0) (a .answers .now) _ _
+    (l .inv .3) (l .inv .4) (l .inv .5) (q .ensures) (read-icu n (q .result) (l .memory) (l .levels) (l .inv .6) _ (sym (c .before .before .before .before .before .before .before .before .before .before .before .before .before .before .before .before .decode .ensures) ∙ c .before .before .before .before .before .before .before .before .before .before .before .before .before .before .d .given .1) (sym (c .before .before .before .before .before .before .before .before .before .before .before .before .is-blocked .ensures) ∙ c .before .before .before .before .before .before .before .before .before .before .before .if1 .left) _ (c .before .before .before .before .before .before .before .before .before .o2 .given .1) (c .before .before .before .before .before .before .before .if6 .taken) _ (c .before .before .before .before .before .before .lines-at .ensures) _ (c .before .before .before .before .before .read-icu .ensures)) (p .ensures)
 
 cast-n : tie.Need-cast-n Inv-loop μ-loop
 cast-n c = search needs
@@ -364,11 +355,10 @@ loop-again-10 c =
     let p = c .before .before .tell10 in
     let q = c .before .before .before .before .before .before .before .before .before .before .before .before .before .before .before .before .before .record-at in
     let n : Board = record { icu = l .icu; intp = l .intp; timer = l .timer; dma = l .dma; kept = a .self .kept } in
-    let t = read-timer n (q .result) (l .memory) (l .levels) (l .inv .6) _ (sym (c .before .before .before .before .before .before .before .before .before .before .before .before .before .before .before .before .decode .ensures) ∙ c .before .before .before .before .before .before .before .before .before .before .before .before .before .before .d .given .1) (sym (c .before .before .before .before .before .before .before .before .before .before .before .before .is-blocked .ensures) ∙ c .before .before .before .before .before .before .before .before .before .before .before .if1 .left) _ (c .before .before .before .before .before .before .before .before .before .o2 .given .1) (c .before .before .before .before .before .before .before .if6 .left) (c .before .before .before .before .before .before .if7 .taken) (read-counter (q .result) _ (search needs) (sym (c .before .before .before .before .before .before .before .before .before .before .before .before .before .before .before .before .decode .ensures) ∙ c .before .before .before .before .before .before .before .before .before .before .before .before .before .before .d .given .1 ∙ ap (λ (x : Operation). Asked x) (c .before .before .before .before .before .before .before .before .before .o2 .given .1)) (eq-eqb _ _ (c .before .before .before .before .before .before .if7 .taken))) _ refl _ (c .before .before .before .before .look .ensures) in
-    let u =
-    turn (a .self) (a .memory .now) (take (a .size) (a .kept) ++ a .tape .now) (l .i) n _ (l .memory) (q .result) (l .memory) (l .answers) (p .last .0) (a .answers .now) _
-    (l .inv .3) (l .inv .4) (l .inv .5) (q .ensures) (t .0) (t .1) (t .2) (p .ensures)
-    in (omega (arith, c .before .before .before .before .before .before .before .before .before .before .before .before .before .before .before .before .before .before .loop-test .taken), l .inv .1, p .kept .0 ∙ l .inv .2, u .0, u .1, u .2, t .3)
+    round (a .self) (a .memory .now) (take (a .size) (a .kept) ++ a .tape .now)
+    (omega (arith, c .before .before .before .before .before .before .before .before .before .before .before .before .before .before .before .before .before .before .loop-test .taken)) (l .inv .1) (p .kept .0 ∙ l .inv .2)
+    (l .i) n _ (l .memory) (q .result) (l .memory) (l .answers) (p .last .0) (a .answers .now) _ _
+    (l .inv .3) (l .inv .4) (l .inv .5) (q .ensures) (read-timer n (q .result) (l .memory) (l .levels) (l .inv .6) _ (sym (c .before .before .before .before .before .before .before .before .before .before .before .before .before .before .before .before .decode .ensures) ∙ c .before .before .before .before .before .before .before .before .before .before .before .before .before .before .d .given .1) (sym (c .before .before .before .before .before .before .before .before .before .before .before .before .is-blocked .ensures) ∙ c .before .before .before .before .before .before .before .before .before .before .before .if1 .left) _ (c .before .before .before .before .before .before .before .before .before .o2 .given .1) (c .before .before .before .before .before .before .before .if6 .left) (c .before .before .before .before .before .before .if7 .taken) (read-counter (q .result) _ (search needs) (sym (c .before .before .before .before .before .before .before .before .before .before .before .before .before .before .before .before .decode .ensures) ∙ c .before .before .before .before .before .before .before .before .before .before .before .before .before .before .d .given .1 ∙ ap (λ (x : Operation). Asked x) (c .before .before .before .before .before .before .before .before .before .o2 .given .1)) (eq-eqb _ _ (c .before .before .before .before .before .before .if7 .taken))) _ refl _ (c .before .before .before .before .look .ensures)) (p .ensures)
 
 look-requires-2 : tie.Need-look-requires-2 Inv-loop μ-loop
 look-requires-2 c κs = search needs
@@ -389,11 +379,10 @@ loop-again-11 c =
     let p = c .before .before .tell11 in
     let q = c .before .before .before .before .before .before .before .before .before .before .before .before .before .before .before .before .record-at in
     let n : Board = record { icu = l .icu; intp = l .intp; timer = l .timer; dma = l .dma; kept = a .self .kept } in
-    let t = read-dma n (q .result) (l .memory) (l .levels) (l .inv .6) _ (sym (c .before .before .before .before .before .before .before .before .before .before .before .before .before .before .before .decode .ensures) ∙ c .before .before .before .before .before .before .before .before .before .before .before .before .before .d .given .1) (sym (c .before .before .before .before .before .before .before .before .before .before .before .is-blocked .ensures) ∙ c .before .before .before .before .before .before .before .before .before .before .if1 .left) _ (c .before .before .before .before .before .before .before .before .o2 .given .1) (c .before .before .before .before .before .before .if6 .left) (c .before .before .before .before .before .if7 .left) _ (c .before .before .before .before .look2 .ensures) in
-    let u =
-    turn (a .self) (a .memory .now) (take (a .size) (a .kept) ++ a .tape .now) (l .i) n _ (l .memory) (q .result) (l .memory) (l .answers) (p .last .0) (a .answers .now) _
-    (l .inv .3) (l .inv .4) (l .inv .5) (q .ensures) (t .0) (t .1) (t .2) (p .ensures)
-    in (omega (arith, c .before .before .before .before .before .before .before .before .before .before .before .before .before .before .before .before .before .loop-test .taken), l .inv .1, p .kept .0 ∙ l .inv .2, u .0, u .1, u .2, t .3)
+    round (a .self) (a .memory .now) (take (a .size) (a .kept) ++ a .tape .now)
+    (omega (arith, c .before .before .before .before .before .before .before .before .before .before .before .before .before .before .before .before .before .loop-test .taken)) (l .inv .1) (p .kept .0 ∙ l .inv .2)
+    (l .i) n _ (l .memory) (q .result) (l .memory) (l .answers) (p .last .0) (a .answers .now) _ _
+    (l .inv .3) (l .inv .4) (l .inv .5) (q .ensures) (read-dma n (q .result) (l .memory) (l .levels) (l .inv .6) _ (sym (c .before .before .before .before .before .before .before .before .before .before .before .before .before .before .before .decode .ensures) ∙ c .before .before .before .before .before .before .before .before .before .before .before .before .before .d .given .1) (sym (c .before .before .before .before .before .before .before .before .before .before .before .is-blocked .ensures) ∙ c .before .before .before .before .before .before .before .before .before .before .if1 .left) _ (c .before .before .before .before .before .before .before .before .o2 .given .1) (c .before .before .before .before .before .before .if6 .left) (c .before .before .before .before .before .if7 .left) _ (c .before .before .before .before .look2 .ensures)) (p .ensures)
 
 enum-known-o-3 : tie.Need-enum-known-o-3 Inv-loop μ-loop
 enum-known-o-3 c = search needs
@@ -417,11 +406,10 @@ loop-again-12 c =
     let p = c .before .before .tell12 in
     let q = c .before .before .before .before .before .before .before .before .before .before .before .before .before .before .before .record-at in
     let n : Board = record { icu = l .icu; intp = l .intp; timer = l .timer; dma = l .dma; kept = a .self .kept } in
-    let t = intp n (q .result) (l .memory) (l .levels) (l .inv .6) _ (sym (c .before .before .before .before .before .before .before .before .before .before .before .before .before .before .decode .ensures) ∙ c .before .before .before .before .before .before .before .before .before .before .before .before .d .given .1) (sym (c .before .before .before .before .before .before .before .before .before .before .is-blocked .ensures) ∙ c .before .before .before .before .before .before .before .before .before .if1 .left) _ (c .before .before .before .before .before .before .before .o3 .given .1) _ (c .before .before .before .before .before .rewire2 .ensures) in
-    let u =
-    turn (a .self) (a .memory .now) (take (a .size) (a .kept) ++ a .tape .now) (l .i) n _ (l .memory) (q .result) (l .memory) (l .answers) (p .last .0) (a .answers .now) _
-    (l .inv .3) (l .inv .4) (l .inv .5) (q .ensures) (t .0) (t .1) (t .2) (p .ensures)
-    in (omega (arith, c .before .before .before .before .before .before .before .before .before .before .before .before .before .before .before .before .loop-test .taken), l .inv .1, p .kept .0 ∙ l .inv .2, u .0, u .1, u .2, t .3)
+    round (a .self) (a .memory .now) (take (a .size) (a .kept) ++ a .tape .now)
+    (omega (arith, c .before .before .before .before .before .before .before .before .before .before .before .before .before .before .before .before .loop-test .taken)) (l .inv .1) (p .kept .0 ∙ l .inv .2)
+    (l .i) n _ (l .memory) (q .result) (l .memory) (l .answers) (p .last .0) (a .answers .now) _ _
+    (l .inv .3) (l .inv .4) (l .inv .5) (q .ensures) (intp n (q .result) (l .memory) (l .levels) (l .inv .6) _ (sym (c .before .before .before .before .before .before .before .before .before .before .before .before .before .before .decode .ensures) ∙ c .before .before .before .before .before .before .before .before .before .before .before .before .d .given .1) (sym (c .before .before .before .before .before .before .before .before .before .before .is-blocked .ensures) ∙ c .before .before .before .before .before .before .before .before .before .if1 .left) _ (c .before .before .before .before .before .before .before .o3 .given .1) _ (c .before .before .before .before .before .rewire2 .ensures)) (p .ensures)
 
 enum-known-o-4 : tie.Need-enum-known-o-4 Inv-loop μ-loop
 enum-known-o-4 c = search needs
@@ -448,11 +436,10 @@ loop-again-13 c =
     let p = c .before .before .tell13 in
     let q = c .before .before .before .before .before .before .before .before .before .before .before .before .before .before .before .before .record-at in
     let n : Board = record { icu = l .icu; intp = l .intp; timer = l .timer; dma = l .dma; kept = a .self .kept } in
-    let t = gates n (q .result) (l .memory) (l .levels) (l .inv .6) _ (sym (c .before .before .before .before .before .before .before .before .before .before .before .before .before .before .before .decode .ensures) ∙ c .before .before .before .before .before .before .before .before .before .before .before .before .before .d .given .1) (sym (c .before .before .before .before .before .before .before .before .before .before .before .is-blocked .ensures) ∙ c .before .before .before .before .before .before .before .before .before .before .if1 .left) _ (c .before .before .before .before .before .before .before .before .o4 .given .1) _ (c .before .before .before .before .before .before .set-gates .ensures) _ (c .before .before .before .before .before .rewire3 .ensures) in
-    let u =
-    turn (a .self) (a .memory .now) (take (a .size) (a .kept) ++ a .tape .now) (l .i) n _ (l .memory) (q .result) (l .memory) (l .answers) (p .last .0) (a .answers .now) _
-    (l .inv .3) (l .inv .4) (l .inv .5) (q .ensures) (t .0) (t .1) (t .2) (p .ensures)
-    in (omega (arith, c .before .before .before .before .before .before .before .before .before .before .before .before .before .before .before .before .before .loop-test .taken), l .inv .1, p .kept .0 ∙ l .inv .2, u .0, u .1, u .2, t .3)
+    round (a .self) (a .memory .now) (take (a .size) (a .kept) ++ a .tape .now)
+    (omega (arith, c .before .before .before .before .before .before .before .before .before .before .before .before .before .before .before .before .before .loop-test .taken)) (l .inv .1) (p .kept .0 ∙ l .inv .2)
+    (l .i) n _ (l .memory) (q .result) (l .memory) (l .answers) (p .last .0) (a .answers .now) _ _
+    (l .inv .3) (l .inv .4) (l .inv .5) (q .ensures) (gates n (q .result) (l .memory) (l .levels) (l .inv .6) _ (sym (c .before .before .before .before .before .before .before .before .before .before .before .before .before .before .before .decode .ensures) ∙ c .before .before .before .before .before .before .before .before .before .before .before .before .before .d .given .1) (sym (c .before .before .before .before .before .before .before .before .before .before .before .is-blocked .ensures) ∙ c .before .before .before .before .before .before .before .before .before .before .if1 .left) _ (c .before .before .before .before .before .before .before .before .o4 .given .1) _ (c .before .before .before .before .before .before .set-gates .ensures) _ (c .before .before .before .before .before .rewire3 .ensures)) (p .ensures)
 
 enum-known-o-5 : tie.Need-enum-known-o-5 Inv-loop μ-loop
 enum-known-o-5 c = search needs
@@ -476,11 +463,10 @@ loop-again-14 c =
     let p = c .before .before .tell14 in
     let q = c .before .before .before .before .before .before .before .before .before .before .before .before .before .before .record-at in
     let n : Board = record { icu = l .icu; intp = l .intp; timer = l .timer; dma = l .dma; kept = a .self .kept } in
-    let t = requests n (q .result) (l .memory) (l .levels) (l .inv .6) _ (sym (c .before .before .before .before .before .before .before .before .before .before .before .before .before .decode .ensures) ∙ c .before .before .before .before .before .before .before .before .before .before .before .d .given .1) (sym (c .before .before .before .before .before .before .before .before .before .is-blocked .ensures) ∙ c .before .before .before .before .before .before .before .before .if1 .left) _ (c .before .before .before .before .before .before .o5 .given .1) _ (c .before .before .before .before .set-requests .ensures) in
-    let u =
-    turn (a .self) (a .memory .now) (take (a .size) (a .kept) ++ a .tape .now) (l .i) n _ (l .memory) (q .result) (l .memory) (l .answers) (p .last .0) (a .answers .now) _
-    (l .inv .3) (l .inv .4) (l .inv .5) (q .ensures) (t .0) (t .1) (t .2) (p .ensures)
-    in (omega (arith, c .before .before .before .before .before .before .before .before .before .before .before .before .before .before .before .loop-test .taken), l .inv .1, p .kept .0 ∙ l .inv .2, u .0, u .1, u .2, t .3)
+    round (a .self) (a .memory .now) (take (a .size) (a .kept) ++ a .tape .now)
+    (omega (arith, c .before .before .before .before .before .before .before .before .before .before .before .before .before .before .before .loop-test .taken)) (l .inv .1) (p .kept .0 ∙ l .inv .2)
+    (l .i) n _ (l .memory) (q .result) (l .memory) (l .answers) (p .last .0) (a .answers .now) _ _
+    (l .inv .3) (l .inv .4) (l .inv .5) (q .ensures) (requests n (q .result) (l .memory) (l .levels) (l .inv .6) _ (sym (c .before .before .before .before .before .before .before .before .before .before .before .before .before .decode .ensures) ∙ c .before .before .before .before .before .before .before .before .before .before .before .d .given .1) (sym (c .before .before .before .before .before .before .before .before .before .is-blocked .ensures) ∙ c .before .before .before .before .before .before .before .before .if1 .left) _ (c .before .before .before .before .before .before .o5 .given .1) _ (c .before .before .before .before .set-requests .ensures)) (p .ensures)
 
 enum-told-3 : tie.Need-enum-told-3 Inv-loop μ-loop
 enum-told-3 c = search needs
@@ -510,11 +496,10 @@ loop-again-15 c =
     let p = c .before .before .tell15 in
     let q = c .before .before .before .before .before .before .before .before .before .before .before .before .before .before .before .before .before .record-at in
     let n : Board = record { icu = l .icu; intp = l .intp; timer = l .timer; dma = l .dma; kept = a .self .kept } in
-    let t = acknowledge n (q .result) (l .memory) (l .levels) (l .inv .6) _ (sym (c .before .before .before .before .before .before .before .before .before .before .before .before .before .before .before .before .decode .ensures) ∙ c .before .before .before .before .before .before .before .before .before .before .before .before .before .before .d .given .1) (sym (c .before .before .before .before .before .before .before .before .before .before .before .before .is-blocked .ensures) ∙ c .before .before .before .before .before .before .before .before .before .before .before .if1 .left) (c .before .before .before .before .before .before .before .before .before .enum-told3 .given .1) _ (c .before .before .before .before .before .before .before .before .lines-at2 .ensures) _ _ (c .before .before .before .before .before .before .before .acknowledge .ensures) (c .before .before .before .before .levels-at2 .ensures) in
-    let u =
-    turn (a .self) (a .memory .now) (take (a .size) (a .kept) ++ a .tape .now) (l .i) n _ (l .memory) (q .result) (l .memory) (l .answers) (p .last .0) (a .answers .now) _
-    (l .inv .3) (l .inv .4) (l .inv .5) (q .ensures) (t .0) (t .1) (t .2) (p .ensures)
-    in (omega (arith, c .before .before .before .before .before .before .before .before .before .before .before .before .before .before .before .before .before .before .loop-test .taken), l .inv .1, p .kept .0 ∙ l .inv .2, u .0, u .1, u .2, t .3)
+    round (a .self) (a .memory .now) (take (a .size) (a .kept) ++ a .tape .now)
+    (omega (arith, c .before .before .before .before .before .before .before .before .before .before .before .before .before .before .before .before .before .before .loop-test .taken)) (l .inv .1) (p .kept .0 ∙ l .inv .2)
+    (l .i) n _ (l .memory) (q .result) (l .memory) (l .answers) (p .last .0) (a .answers .now) _ _
+    (l .inv .3) (l .inv .4) (l .inv .5) (q .ensures) (acknowledge n (q .result) (l .memory) (l .levels) (l .inv .6) _ (sym (c .before .before .before .before .before .before .before .before .before .before .before .before .before .before .before .before .decode .ensures) ∙ c .before .before .before .before .before .before .before .before .before .before .before .before .before .before .d .given .1) (sym (c .before .before .before .before .before .before .before .before .before .before .before .before .is-blocked .ensures) ∙ c .before .before .before .before .before .before .before .before .before .before .before .if1 .left) (c .before .before .before .before .before .before .before .before .before .enum-told3 .given .1) _ (c .before .before .before .before .before .before .before .before .lines-at2 .ensures) _ _ (c .before .before .before .before .before .before .before .acknowledge .ensures) (c .before .before .before .before .levels-at2 .ensures)) (p .ensures)
 
 enum-known-o-6 : tie.Need-enum-known-o-6 Inv-loop μ-loop
 enum-known-o-6 c = search needs
@@ -544,11 +529,10 @@ loop-again-16 c =
     let p = c .before .before .tell16 in
     let q = c .before .before .before .before .before .before .before .before .before .before .before .before .before .before .before .before .before .before .before .record-at in
     let n : Board = record { icu = l .icu; intp = l .intp; timer = l .timer; dma = l .dma; kept = a .self .kept } in
-    let t = advance n (q .result) (l .memory) (l .levels) (l .inv .6) _ (sym (c .before .before .before .before .before .before .before .before .before .before .before .before .before .before .before .before .before .before .decode .ensures) ∙ c .before .before .before .before .before .before .before .before .before .before .before .before .before .before .before .before .d .given .1) (sym (c .before .before .before .before .before .before .before .before .before .before .before .before .before .before .is-blocked .ensures) ∙ c .before .before .before .before .before .before .before .before .before .before .before .before .before .if1 .left) _ (c .before .before .before .before .before .before .before .before .before .before .before .o6 .given .1) _ _ _ (c .before .before .before .before .before .before .before .before .before .run-pulses .ensures) (c .before .before .before .before .before .levels-at3 .ensures) (c .before .before .before .rises-payload .ensures) in
-    let u =
-    turn (a .self) (a .memory .now) (take (a .size) (a .kept) ++ a .tape .now) (l .i) n _ (l .memory) (q .result) (l .memory) (l .answers) (p .last .0) (a .answers .now) _
-    (l .inv .3) (l .inv .4) (l .inv .5) (q .ensures) (t .0) (t .1) (t .2) (p .ensures)
-    in (omega (arith, c .before .before .before .before .before .before .before .before .before .before .before .before .before .before .before .before .before .before .before .before .loop-test .taken), l .inv .1, p .kept .0 ∙ l .inv .2, u .0, u .1, u .2, t .3)
+    round (a .self) (a .memory .now) (take (a .size) (a .kept) ++ a .tape .now)
+    (omega (arith, c .before .before .before .before .before .before .before .before .before .before .before .before .before .before .before .before .before .before .before .before .loop-test .taken)) (l .inv .1) (p .kept .0 ∙ l .inv .2)
+    (l .i) n _ (l .memory) (q .result) (l .memory) (l .answers) (p .last .0) (a .answers .now) _ _
+    (l .inv .3) (l .inv .4) (l .inv .5) (q .ensures) (advance n (q .result) (l .memory) (l .levels) (l .inv .6) _ (sym (c .before .before .before .before .before .before .before .before .before .before .before .before .before .before .before .before .before .before .decode .ensures) ∙ c .before .before .before .before .before .before .before .before .before .before .before .before .before .before .before .before .d .given .1) (sym (c .before .before .before .before .before .before .before .before .before .before .before .before .before .before .is-blocked .ensures) ∙ c .before .before .before .before .before .before .before .before .before .before .before .before .before .if1 .left) _ (c .before .before .before .before .before .before .before .before .before .before .before .o6 .given .1) _ _ _ (c .before .before .before .before .before .before .before .before .before .run-pulses .ensures) (c .before .before .before .before .before .levels-at3 .ensures) (c .before .before .before .rises-payload .ensures)) (p .ensures)
 
 enum-known-o-7 : tie.Need-enum-known-o-7 Inv-loop μ-loop
 enum-known-o-7 c = search needs
@@ -596,11 +580,10 @@ loop-again-17 c =
     let p = c .before .before .tell17 in
     let q = c .before .before .before .before .before .before .before .before .before .before .before .before .before .before .before .before .before .before .before .before .before .before .record-at in
     let n : Board = record { icu = l .icu; intp = l .intp; timer = l .timer; dma = l .dma; kept = a .self .kept } in
-    let t = plain-unit n (q .result) (l .memory) (l .levels) (l .inv .6) _ (sym (c .before .before .before .before .before .before .before .before .before .before .before .before .before .before .before .before .before .before .before .before .before .decode .ensures) ∙ c .before .before .before .before .before .before .before .before .before .before .before .before .before .before .before .before .before .before .before .d .given .1) (sym (c .before .before .before .before .before .before .before .before .before .before .before .before .before .before .before .before .before .is-blocked .ensures) ∙ c .before .before .before .before .before .before .before .before .before .before .before .before .before .before .before .before .if1 .left) _ _ (c .before .before .before .before .before .before .before .before .before .before .before .before .before .before .o7 .given .1) (sym (c .before .before .before .before .before .before .before .before .before .before .before .is-plain .ensures) ∙ c .before .before .before .before .before .before .before .before .before .before .if8 .taken) _ _ _ _ (c .before .before .before .before .before .advance .ensures) (c .before .before .before .before .before .before .before .before .transfer .ensures .1) (c .before .before .before .before .before .before .before .before .transfer .ensures .0) (c .before .before .before .before .moved-payload .ensures) in
-    let u =
-    turn (a .self) (a .memory .now) (take (a .size) (a .kept) ++ a .tape .now) (l .i) n _ (l .memory) (q .result) (c .before .before .before .before .before .before .before .before .transfer .last .1 .1 .0) (l .answers) (p .last .0) (a .answers .now) _
-    (l .inv .3) (l .inv .4) (l .inv .5) (q .ensures) (t .0) (t .1) (t .2) (p .ensures)
-    in (omega (arith, c .before .before .before .before .before .before .before .before .before .before .before .before .before .before .before .before .before .before .before .before .before .before .before .loop-test .taken), c .before .before .before .before .before .before .before .before .transfer .kept .1 .1 .0 ∙ l .inv .1, p .kept .0 ∙ l .inv .2, u .0, u .1, u .2, t .3)
+    round (a .self) (a .memory .now) (take (a .size) (a .kept) ++ a .tape .now)
+    (omega (arith, c .before .before .before .before .before .before .before .before .before .before .before .before .before .before .before .before .before .before .before .before .before .before .before .loop-test .taken)) (c .before .before .before .before .before .before .before .before .transfer .kept .1 .1 .0 ∙ l .inv .1) (p .kept .0 ∙ l .inv .2)
+    (l .i) n _ (l .memory) (q .result) (c .before .before .before .before .before .before .before .before .transfer .last .1 .1 .0) (l .answers) (p .last .0) (a .answers .now) _ _
+    (l .inv .3) (l .inv .4) (l .inv .5) (q .ensures) (plain-unit n (q .result) (l .memory) (l .levels) (l .inv .6) _ (sym (c .before .before .before .before .before .before .before .before .before .before .before .before .before .before .before .before .before .before .before .before .before .decode .ensures) ∙ c .before .before .before .before .before .before .before .before .before .before .before .before .before .before .before .before .before .before .before .d .given .1) (sym (c .before .before .before .before .before .before .before .before .before .before .before .before .before .before .before .before .before .is-blocked .ensures) ∙ c .before .before .before .before .before .before .before .before .before .before .before .before .before .before .before .before .if1 .left) _ _ (c .before .before .before .before .before .before .before .before .before .before .before .before .before .before .o7 .given .1) (sym (c .before .before .before .before .before .before .before .before .before .before .before .is-plain .ensures) ∙ c .before .before .before .before .before .before .before .before .before .before .if8 .taken) _ _ _ _ (c .before .before .before .before .before .advance .ensures) (c .before .before .before .before .before .before .before .before .transfer .ensures .1) (c .before .before .before .before .before .before .before .before .transfer .ensures .0) (c .before .before .before .before .moved-payload .ensures)) (p .ensures)
 
 cycle-requires : tie.Need-cycle-requires Inv-loop μ-loop
 cycle-requires c κs = search needs
@@ -627,11 +610,10 @@ loop-again-18 c =
     let p = c .before .before .tell18 in
     let q = c .before .before .before .before .before .before .before .before .before .before .before .before .before .before .before .before .before .before .before .before .before .before .before .record-at in
     let n : Board = record { icu = l .icu; intp = l .intp; timer = l .timer; dma = l .dma; kept = a .self .kept } in
-    let t = cycle-by-call n (q .result) (l .memory) (l .levels) (l .inv .6) _ (sym (c .before .before .before .before .before .before .before .before .before .before .before .before .before .before .before .before .before .before .before .before .before .before .decode .ensures) ∙ c .before .before .before .before .before .before .before .before .before .before .before .before .before .before .before .before .before .before .before .before .d .given .1) (sym (c .before .before .before .before .before .before .before .before .before .before .before .before .before .before .before .before .before .before .is-blocked .ensures) ∙ c .before .before .before .before .before .before .before .before .before .before .before .before .before .before .before .before .before .if1 .left) _ _ (c .before .before .before .before .before .before .before .before .before .before .before .before .before .before .before .o7 .given .1) _ (c .before .before .before .before .before .before .before .before .before .cycle .result .report) _ _ _ (c .before .before .before .before .before .before .before .before .before .cycle .ensures .0) (c .before .before .before .before .before .before .before .before .before .cycle .ensures .1 .0) (c .before .before .before .before .before .before .before .before .before .cycle .ensures .1 .1) (c .before .before .before .before .byte-moved .ensures) (c .before .before .before .payload .ensures) in
-    let u =
-    turn (a .self) (a .memory .now) (take (a .size) (a .kept) ++ a .tape .now) (l .i) n _ (l .memory) (q .result) (c .before .before .before .before .before .before .before .before .before .cycle .last .1 .1 .1 .0) (l .answers) (p .last .0) (a .answers .now) _
-    (l .inv .3) (l .inv .4) (l .inv .5) (q .ensures) (t .0) (t .1) (t .2) (p .ensures)
-    in (omega (arith, c .before .before .before .before .before .before .before .before .before .before .before .before .before .before .before .before .before .before .before .before .before .before .before .before .loop-test .taken), c .before .before .before .before .before .before .before .before .before .cycle .kept .1 .1 .1 .0 ∙ l .inv .1, p .kept .0 ∙ l .inv .2, u .0, u .1, u .2, t .3)
+    round (a .self) (a .memory .now) (take (a .size) (a .kept) ++ a .tape .now)
+    (omega (arith, c .before .before .before .before .before .before .before .before .before .before .before .before .before .before .before .before .before .before .before .before .before .before .before .before .loop-test .taken)) (c .before .before .before .before .before .before .before .before .before .cycle .kept .1 .1 .1 .0 ∙ l .inv .1) (p .kept .0 ∙ l .inv .2)
+    (l .i) n _ (l .memory) (q .result) (c .before .before .before .before .before .before .before .before .before .cycle .last .1 .1 .1 .0) (l .answers) (p .last .0) (a .answers .now) _ _
+    (l .inv .3) (l .inv .4) (l .inv .5) (q .ensures) (cycle-by-call n (q .result) (l .memory) (l .levels) (l .inv .6) _ (sym (c .before .before .before .before .before .before .before .before .before .before .before .before .before .before .before .before .before .before .before .before .before .before .decode .ensures) ∙ c .before .before .before .before .before .before .before .before .before .before .before .before .before .before .before .before .before .before .before .before .d .given .1) (sym (c .before .before .before .before .before .before .before .before .before .before .before .before .before .before .before .before .before .before .is-blocked .ensures) ∙ c .before .before .before .before .before .before .before .before .before .before .before .before .before .before .before .before .before .if1 .left) _ _ (c .before .before .before .before .before .before .before .before .before .before .before .before .before .before .before .o7 .given .1) _ (c .before .before .before .before .before .before .before .before .before .cycle .result .report) _ _ _ (c .before .before .before .before .before .before .before .before .before .cycle .ensures .0) (c .before .before .before .before .before .before .before .before .before .cycle .ensures .1 .0) (c .before .before .before .before .before .before .before .before .before .cycle .ensures .1 .1) (c .before .before .before .before .byte-moved .ensures) (c .before .before .before .payload .ensures)) (p .ensures)
 
 same-length : tie.Need-same-length Inv-loop μ-loop
 same-length c = c .before .loop .inv .1
