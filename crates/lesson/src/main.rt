@@ -1,7 +1,6 @@
 // lesson FILE..: runs each lesson from reset and prints a row for each record.
 // lesson assemble | list | explain: filters on standard input and output; lesson pieces FILE.. shows what they make of a lesson.
-mod answered;
-mod asked;
+mod row;
 
 use board::Board;
 use libc::STDERR_FILENO;
@@ -9,6 +8,7 @@ use libc::STDIN_FILENO;
 use libc::STDOUT_FILENO;
 use words::notation;
 use words::notation::Parsed;
+use words::pieces;
 use words::sentences;
 use words::text;
 use words::text::Text;
@@ -54,18 +54,10 @@ fn tell(path: &[u8], sentence: u8, first: u64, second: u64) {
         .complain();
 }
 
-// One more; no lesson is so long that it stays.
-fn more(n: u64) -> u64 {
-    if n < u64::MAX {
-        return n + 1;
-    }
-    n
-}
-
 // A bad line, by file, line and column. Ten are told, and then no more. In a run there is none, unless the file changed since it was checked.
 fn tell_bad(path: &[u8], bench: Bench, column: usize, expected: u8) -> Bench {
     let mut next = bench;
-    next.bad = more(bench.bad);
+    next.bad = text::more(bench.bad);
     if ASSEMBLE < bench.mode {
         next.more = false;
         next.well = false;
@@ -97,9 +89,9 @@ fn run_record(bench: Bench, r: [u8; 8], memory: &mut [u8; 65536]) -> Bench {
     let after = s.board;
     let mut next = bench;
     next.board = after;
-    next.records = more(bench.records);
+    next.records = text::more(bench.records);
     if a[0] != 0 {
-        next.refused = more(bench.refused);
+        next.refused = text::more(bench.refused);
     }
     if print_record(before, bench, r, a) {
         return next;
@@ -111,39 +103,12 @@ fn print_record(before: Board, bench: Bench, r: [u8; 8], a: [u8; 16]) -> bool {
     if bench.mode == RUN {
         return text::print_row(
             bench.line,
-            asked::words(before, r, a[0]),
-            answered::words(before, r, a),
+            row::asked(before, r, a[0]),
+            row::answered(before, r, a),
             a[3],
         );
     }
-    print_pieces(bench.line, r, a)
-}
-
-// The record's bytes and its line, and below them the answer by itself.
-fn print_pieces(number: u64, r: [u8; 8], a: [u8; 16]) -> bool {
-    let facts = sentences::facts(r, 0, 0, 0, 0);
-    let bytes = sentences::asked(0x0c, facts);
-    let line = sentences::asked(notation::sentence(facts), facts);
-    let row = Text::number(number)
-        .put(b' ')
-        .part(bytes, 0, bytes.n)
-        .put(b' ')
-        .pad(37)
-        .part(line, 0, line.n)
-        .put(b'\n');
-    if row.print() {
-        return print_answer(number, a);
-    }
-    false
-}
-
-fn print_answer(number: u64, a: [u8; 16]) -> bool {
-    text::print_row(
-        number,
-        answered::operation(a),
-        answered::words_alone(a),
-        a[3],
-    )
+    pieces::print_pieces(bench.line, r, a)
 }
 
 // The tape is held back until the whole lesson is known to be good, or the room is full.
@@ -151,7 +116,7 @@ fn hold_record(bench: Bench, r: [u8; 8], tape: &mut [u8; 65536]) -> Bench {
     let at = (bench.records % 8192 * 8) as usize;
     put_record(tape, at, r);
     let mut next = bench;
-    next.records = more(bench.records);
+    next.records = text::more(bench.records);
     if at < 65528 {
         return next;
     }
@@ -182,7 +147,7 @@ fn write_tape(tape: &[u8; 65536], n: usize) -> bool {
 fn take_record(bench: Bench, r: [u8; 8], store: &mut [u8; 65536]) -> Bench {
     if bench.mode == CHECK {
         let mut next = bench;
-        next.records = more(bench.records);
+        next.records = text::more(bench.records);
         return next;
     }
     if bench.mode == ASSEMBLE {
@@ -195,7 +160,7 @@ fn take_record(bench: Bench, r: [u8; 8], store: &mut [u8; 65536]) -> Bench {
 fn end_line(path: &[u8], line: &[u8; 1000], store: &mut [u8; 65536], bench: Bench) -> Bench {
     let n = bench.held;
     let mut next = bench;
-    next.line = more(bench.line);
+    next.line = text::more(bench.line);
     next.held = 0;
     if 1000 < n {
         return tell_bad(path, next, 1001, notation::SHORTER);
@@ -255,7 +220,7 @@ fn take_piece(bench: Bench, x: u8) -> Bench {
         return next;
     }
     next.held = 0;
-    next.records = more(bench.records);
+    next.records = text::more(bench.records);
     let kept = next.kept;
     if print_piece(next.mode, next.records, kept) {
         return next;
@@ -269,7 +234,7 @@ fn print_piece(mode: u8, number: u64, kept: [u8; 16]) -> bool {
             .put(b'\n')
             .print();
     }
-    print_answer(number, kept)
+    pieces::print_answer(number, kept)
 }
 
 fn take_bytes(
@@ -367,7 +332,7 @@ fn end_text(path: &[u8], bench: Bench) -> Bench {
         return bench;
     }
     let mut next = bench;
-    next.line = more(bench.line);
+    next.line = text::more(bench.line);
     if 1000 < bench.held {
         return tell_bad(path, next, 1001, notation::SHORTER);
     }
@@ -450,92 +415,9 @@ fn write_rest(tape: &[u8; 65536], n: usize) -> bool {
 fn print_end(records: u64, refused: u64, memory: &[u8; 65536]) -> bool {
     let told = sentences::message(0x20, records, refused).put(b'\n');
     if told.print() {
-        return print_memory(memory);
+        return words::memory::print(memory);
     }
     false
-}
-
-fn is_zero_row(memory: &[u8; 65536], at: usize) -> bool {
-    let mut i = 0;
-    while i < 16 {
-        let p = (at % 65536 + i) % 65536;
-        if memory[p] != 0 {
-            return false;
-        }
-        i += 1;
-    }
-    true
-}
-
-// The bytes that are not zero as they were, in rows of 16; sixteen rows are shown, and the others counted.
-fn print_memory(memory: &[u8; 65536]) -> bool {
-    let mut rows: u64 = 0;
-    let mut k: usize = 0;
-    while k < 4096 {
-        if is_zero_row(memory, k * 16) {
-            k += 1;
-            continue;
-        }
-        rows = more(rows);
-        print_changed(memory, k * 16, rows);
-        k += 1;
-    }
-    print_memory_end(rows)
-}
-
-fn print_memory_end(rows: u64) -> bool {
-    if rows == 0 {
-        return sentences::message(0x22, 0, 0).put(b'\n').print();
-    }
-    if 16 < rows {
-        return sentences::message(0x23, rows - 16, 0).put(b'\n').print();
-    }
-    true
-}
-
-fn print_changed(memory: &[u8; 65536], at: usize, rows: u64) -> bool {
-    if 16 < rows {
-        return true;
-    }
-    if rows == 1 {
-        sentences::message(0x21, 0, 0).put(b'\n').print();
-    }
-    print_memory_row(memory, at)
-}
-
-fn print_memory_row(memory: &[u8; 65536], at: usize) -> bool {
-    let mut t = Text::new().pad(2).address((at % 65536) as u32).put(b' ');
-    let mut shown = Text::new();
-    let mut i = 0;
-    while i < 16 {
-        let p = (at % 65536 + i) % 65536;
-        let x = memory[p];
-        t = put_changed(t, x);
-        shown = put_shown(shown, x);
-        i += 1;
-    }
-    t.put(b' ')
-        .put(b' ')
-        .part(shown, 0, shown.n)
-        .put(b'\n')
-        .print()
-}
-
-fn put_changed(t: Text, x: u8) -> Text {
-    if x == 0 {
-        return t.put(b' ').put(b'-').put(b'-');
-    }
-    t.put(b' ').hex(x)
-}
-
-fn put_shown(t: Text, x: u8) -> Text {
-    if x < 32 {
-        return t.put(b'.');
-    }
-    if 126 < x {
-        return t.put(b'.');
-    }
-    t.put(x)
 }
 
 fn rewind(fd: i32, path: &[u8]) -> bool {

@@ -267,3 +267,11 @@ fn print_rest(asked: Text, from: usize, answer: Text, start: usize) -> bool {
     }
     true
 }
+
+// One more; no lesson is so long that it stays.
+pub fn more(n: u64) -> u64 {
+    if n < u64::MAX {
+        return n + 1;
+    }
+    n
+}

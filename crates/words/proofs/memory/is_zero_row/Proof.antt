@@ -1,9 +1,9 @@
 use Prim.Native.Nat.{_-_}
 use borrow.Author.Needs.{needs}
-use Rattle.lesson.proofs.is_zero_row.Statement.{statement}
-use Rattle.lesson.proofs.is_zero_row.Tie as tie
-use Rattle.lesson.proofs.is_zero_row.Reads as reads
-use Rattle.lesson.proofs.is_zero_row.Lts as lts
+use Rattle.words.proofs.memory.is_zero_row.Statement.{statement}
+use Rattle.words.proofs.memory.is_zero_row.Tie as tie
+use Rattle.words.proofs.memory.is_zero_row.Reads as reads
+use Rattle.words.proofs.memory.is_zero_row.Lts as lts
 
 abbrev Inv-loop : tie.InvT-loop
 Inv-loop memory at i₀ i = Unit {0}

@@ -1,7 +1,7 @@
 use Prim.Native.Nat.{_-_}
 use borrow.Author.Needs.{needs}
-use Rattle.lesson.proofs.print_memory.Statement.{statement}
-use Rattle.lesson.proofs.print_memory.Tie as tie
+use Rattle.words.proofs.memory.print.Statement.{statement}
+use Rattle.words.proofs.memory.print.Tie as tie
 
 abbrev Inv-loop : tie.InvT-loop
 Inv-loop memory rows₀ k₀ rows k = Unit {0}
@@ -45,14 +45,14 @@ loop-less-2 c = search needs
 loop-again-2 : tie.Need-loop-again-2 Inv-loop μ-loop
 loop-again-2 c = search needs
 
-print-memory-end-requires : tie.Need-print-memory-end-requires Inv-loop μ-loop
-print-memory-end-requires c κs = search needs
+print-end-requires : tie.Need-print-end-requires Inv-loop μ-loop
+print-end-requires c κs = search needs
 
 returns : tie.Need-returns Inv-loop μ-loop
 returns c = search needs
 
-pub print-memory-spec : {M : Type 1} → statement M
-print-memory-spec =
+pub print-spec : {M : Type 1} → statement M
+print-spec =
     tie.close
     (tie.spec
     Inv-loop
@@ -69,5 +69,5 @@ print-memory-spec =
     add-k-2
     loop-less-2
     loop-again-2
-    print-memory-end-requires
+    print-end-requires
     returns)

@@ -1,7 +1,7 @@
 use Prim.Native.Nat.{_-_}
 use borrow.Author.Needs.{needs}
-use Rattle.lesson.proofs.print_memory_row.Statement.{statement}
-use Rattle.lesson.proofs.print_memory_row.Tie as tie
+use Rattle.words.proofs.memory.print_row.Statement.{statement}
+use Rattle.words.proofs.memory.print_row.Tie as tie
 
 abbrev Inv-loop : tie.InvT-loop
 Inv-loop memory at t₀ shown₀ i₀ t shown i = Unit {0}
@@ -69,8 +69,8 @@ print-requires c κs = search needs
 returns : tie.Need-returns Inv-loop μ-loop
 returns c = search needs
 
-pub print-memory-row-spec : {M : Type 1} → statement M
-print-memory-row-spec =
+pub print-row-spec : {M : Type 1} → statement M
+print-row-spec =
     tie.close
     (tie.spec
     Inv-loop

@@ -1,18 +1,8 @@
-// An answer in words, and for a refusal a sentence that helps.
-use board::Board;
+// Which sentence says what an answer is, and of a refusal why.
+use super::notation;
+use super::sentences;
+use super::text::Text;
 use icu::Icu;
-use words::notation;
-use words::sentences;
-use words::text::Text;
-
-// The answer to a record of a lesson; the board is as it was before the record.
-pub fn words(board: Board, r: [u8; 8], a: [u8; 16]) -> Text {
-    if a[0] != 0 {
-        return refusal(board, r, a[0]);
-    }
-    let n = done(a[1], a[4], unit(board, a[5]), r[1]);
-    sentences::answered(n, facts(a))
-}
 
 // An answer by itself: which way a unit went, and which port was read, is not known.
 pub fn words_alone(a: [u8; 16]) -> Text {
@@ -35,7 +25,7 @@ fn capped(x: u8) -> u8 {
 }
 
 // What was done. `kind` is byte 4: the first byte of a CALL, or what a DMA cycle came to. The byte at port 00 is a register with a bit for each level.
-fn done(op: u8, kind: u8, unit: u8, port: u8) -> u8 {
+pub fn done(op: u8, kind: u8, unit: u8, port: u8) -> u8 {
     match op {
         2 => match port {
             0 => 0x02,
@@ -56,20 +46,8 @@ fn done(op: u8, kind: u8, unit: u8, port: u8) -> u8 {
     }
 }
 
-// The sentence for a unit of a channel.
-fn unit(board: Board, channel: u8) -> u8 {
-    let d = board.dma;
-    let i = (channel % 4) as usize;
-    let c = d.channels[i];
-    match c.mode / 4 % 4 {
-        1 => 0x0a,
-        2 => 0x0b,
-        _ => 0x09,
-    }
-}
-
 // The answer, and where it is to a DMA cycle, how the unit ended and whether it was past the memory.
-fn facts(a: [u8; 16]) -> [u8; 16] {
+pub fn facts(a: [u8; 16]) -> [u8; 16] {
     if a[1] != 6 {
         return a;
     }
@@ -89,18 +67,7 @@ fn end(last: u8, free: u8) -> u8 {
     0
 }
 
-// Why a record was refused, worked out from the record and the board before it.
-fn refusal(board: Board, r: [u8; 8], status: u8) -> Text {
-    let d = board.dma;
-    let i = board.icu;
-    let f = sentences::facts(r, status, d.channel, icu::highest(i.isr, i.lowest), 0);
-    if status == 5 {
-        return sentences::refused(int_low(board), f);
-    }
-    sentences::refused(reason(status, f, i.stage), f)
-}
-
-fn reason(status: u8, r: [u8; 16], stage: u8) -> u8 {
+pub fn reason(status: u8, r: [u8; 16], stage: u8) -> u8 {
     match status {
         1 => 0x10,
         2 => malformed(r[0], r[1], r[2], notation::is_zero_later(r), r[6] | r[7]),
@@ -209,22 +176,4 @@ fn unbuilt(port: u8, x: u8) -> u8 {
         },
         _ => 0x4c,
     }
-}
-
-// Status 5: whether nothing asks, or what asks is outranked.
-fn int_low(board: Board) -> u8 {
-    let timer = board.timer;
-    let c = timer.counters[0];
-    let i = board.icu;
-    let mut lines = board.intp;
-    if c.out {
-        lines = bits::with(board.intp, 0);
-    }
-    if i.asked(lines) == 0 {
-        if i.irr(lines) == 0 {
-            return 0x50;
-        }
-        return 0x51;
-    }
-    0x52
 }

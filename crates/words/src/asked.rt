@@ -1,33 +1,19 @@
-// What a record asks for, in the chips' own words.
-use board::Board;
-use words::notation;
-use words::sentences;
-use words::text::Text;
-
-// The board is as it is before the record: what a byte means depends on it. A record that is refused with 2 asks for nothing, and stands in the notation.
-pub fn words(board: Board, r: [u8; 8], status: u8) -> Text {
-    let f = facts(board, r);
-    if status == 2 {
-        return sentences::asked(notation::sentence(f), f);
+// Which sentence says what a record asks for.
+// By the facts of a record and of the board before it.
+pub fn sentence(f: [u8; 16]) -> u8 {
+    match f[0] {
+        0 => 0x13,
+        1 => write(f[1], f[2], f[12]),
+        2 => read(f[1]),
+        3 => 0x15,
+        4 => 0x14,
+        5 => advance(f[4], f[5]),
+        _ => 0x12,
     }
-    sentences::asked(sentence(f), f)
-}
-
-fn facts(board: Board, r: [u8; 8]) -> [u8; 16] {
-    let d = board.dma;
-    let t = board.timer;
-    let k = (r[1] % 4 % 3) as usize;
-    let c = t.counters[k];
-    let i = board.icu;
-    let mut f = sentences::facts(r, d.selected, d.base as u8, 0, c.latched as u8);
-    f[10] = place(r[0], c.format, c.half, c.second);
-    f[12] = i.stage;
-    f[13] = i.showsisr as u8;
-    f
 }
 
 // Which byte of a count is written or read.
-fn place(op: u8, format: u8, half: bool, second: bool) -> u8 {
+pub fn place(op: u8, format: u8, half: bool, second: bool) -> u8 {
     if format != 3 {
         return format;
     }
@@ -41,18 +27,6 @@ fn place(op: u8, format: u8, half: bool, second: bool) -> u8 {
         return 2;
     }
     1
-}
-
-fn sentence(f: [u8; 16]) -> u8 {
-    match f[0] {
-        0 => 0x13,
-        1 => write(f[1], f[2], f[12]),
-        2 => read(f[1]),
-        3 => 0x15,
-        4 => 0x14,
-        5 => advance(f[4], f[5]),
-        _ => 0x12,
-    }
 }
 
 fn advance(low: u8, high: u8) -> u8 {

@@ -1,0 +1,79 @@
+// What the board has to do with a row: the facts of it that choose the sentences. It is the board before the record.
+use board::Board;
+use words::answered;
+use words::asked;
+use words::notation;
+use words::sentences;
+use words::text::Text;
+
+// What a record asks for: what a byte means depends on the board. A record that is refused with 2 asks for nothing, and stands in the notation.
+pub fn asked(board: Board, r: [u8; 8], status: u8) -> Text {
+    let f = facts_of(board, r);
+    if status == 2 {
+        return sentences::asked(notation::sentence(f), f);
+    }
+    sentences::asked(asked::sentence(f), f)
+}
+
+fn facts_of(board: Board, r: [u8; 8]) -> [u8; 16] {
+    let d = board.dma;
+    let t = board.timer;
+    let k = (r[1] % 4 % 3) as usize;
+    let c = t.counters[k];
+    let i = board.icu;
+    let mut f = sentences::facts(r, d.selected, d.base as u8, 0, c.latched as u8);
+    f[10] = asked::place(r[0], c.format, c.half, c.second);
+    f[12] = i.stage;
+    f[13] = i.showsisr as u8;
+    f
+}
+
+// The answer to a record, and for a refusal a sentence that helps.
+pub fn answered(board: Board, r: [u8; 8], a: [u8; 16]) -> Text {
+    if a[0] != 0 {
+        return refusal(board, r, a[0]);
+    }
+    let n = answered::done(a[1], a[4], unit(board, a[5]), r[1]);
+    sentences::answered(n, answered::facts(a))
+}
+
+// The sentence for a unit of a channel.
+fn unit(board: Board, channel: u8) -> u8 {
+    let d = board.dma;
+    let i = (channel % 4) as usize;
+    let c = d.channels[i];
+    match c.mode / 4 % 4 {
+        1 => 0x0a,
+        2 => 0x0b,
+        _ => 0x09,
+    }
+}
+
+// Why a record was refused, worked out from the record and the board before it.
+fn refusal(board: Board, r: [u8; 8], status: u8) -> Text {
+    let d = board.dma;
+    let i = board.icu;
+    let f = sentences::facts(r, status, d.channel, icu::highest(i.isr, i.lowest), 0);
+    if status == 5 {
+        return sentences::refused(int_low(board), f);
+    }
+    sentences::refused(answered::reason(status, f, i.stage), f)
+}
+
+// Status 5: whether nothing asks, or what asks is outranked.
+fn int_low(board: Board) -> u8 {
+    let timer = board.timer;
+    let c = timer.counters[0];
+    let i = board.icu;
+    let mut lines = board.intp;
+    if c.out {
+        lines = bits::with(board.intp, 0);
+    }
+    if i.asked(lines) == 0 {
+        if i.irr(lines) == 0 {
+            return 0x50;
+        }
+        return 0x51;
+    }
+    0x52
+}

@@ -1,0 +1,87 @@
+// The memory after a lesson.
+use super::sentences;
+use super::text;
+use super::text::Text;
+
+// The bytes that are not zero as they were, in rows of 16; sixteen rows are shown, and the others counted.
+pub fn print(memory: &[u8; 65536]) -> bool {
+    let mut rows: u64 = 0;
+    let mut k: usize = 0;
+    while k < 4096 {
+        if is_zero_row(memory, k * 16) {
+            k += 1;
+            continue;
+        }
+        rows = text::more(rows);
+        print_changed(memory, k * 16, rows);
+        k += 1;
+    }
+    print_end(rows)
+}
+
+fn print_end(rows: u64) -> bool {
+    if rows == 0 {
+        return sentences::message(0x22, 0, 0).put(b'\n').print();
+    }
+    if 16 < rows {
+        return sentences::message(0x23, rows - 16, 0).put(b'\n').print();
+    }
+    true
+}
+
+fn print_changed(memory: &[u8; 65536], at: usize, rows: u64) -> bool {
+    if 16 < rows {
+        return true;
+    }
+    if rows == 1 {
+        sentences::message(0x21, 0, 0).put(b'\n').print();
+    }
+    print_row(memory, at)
+}
+
+fn is_zero_row(memory: &[u8; 65536], at: usize) -> bool {
+    let mut i = 0;
+    while i < 16 {
+        let p = (at % 65536 + i) % 65536;
+        if memory[p] != 0 {
+            return false;
+        }
+        i += 1;
+    }
+    true
+}
+
+fn print_row(memory: &[u8; 65536], at: usize) -> bool {
+    let mut t = Text::new().pad(2).address((at % 65536) as u32).put(b' ');
+    let mut shown = Text::new();
+    let mut i = 0;
+    while i < 16 {
+        let p = (at % 65536 + i) % 65536;
+        let x = memory[p];
+        t = put_changed(t, x);
+        shown = put_shown(shown, x);
+        i += 1;
+    }
+    t.put(b' ')
+        .put(b' ')
+        .part(shown, 0, shown.n)
+        .put(b'\n')
+        .print()
+}
+
+fn put_changed(t: Text, x: u8) -> Text {
+    if x == 0 {
+        return t.put(b' ').put(b'-').put(b'-');
+    }
+    t.put(b' ').hex(x)
+}
+
+fn put_shown(t: Text, x: u8) -> Text {
+    if x < 32 {
+        return t.put(b'.');
+    }
+    if 126 < x {
+        return t.put(b'.');
+    }
+    t.put(x)
+}
