@@ -3,17 +3,17 @@
 // One lump in four that completes a record is first fed with a buffer one byte too short, and one in sixteen to a board with a field out of its
 // range. Both calls have to be refused with 7 and to change nothing. One lump in eight follows an empty call, and the buffer has
 // bytes to spare now and then.
-use super::counts;
-use super::counts::Tally;
 use super::same;
 use super::spoilt;
-use super::stretch;
-use super::stretch::Answers;
-use super::stretch::Memory;
-use super::stretch::Tape;
-use super::tapes;
 use board::Board;
 use intake::Fed;
+use rival::counts;
+use rival::counts::Tally;
+use rival::stretch;
+use rival::stretch::Answers;
+use rival::stretch::Memory;
+use rival::stretch::Tape;
+use rival::tapes;
 ghost use Prim.Native.Nat.{_<_, _≤_};
 
 // Where a run stands: the board, the draw, how many records have answers, and the counts.

@@ -1,16 +1,12 @@
 // duel CHARTS..: holds the board of this repository, the first, and an independent second one against the charts of the files that it is given, and
 // against each other on long tapes.
-mod counts;
 mod first;
-mod notation;
 mod rounds;
 mod run;
 mod same;
-mod second;
-mod show;
 mod spoilt;
-mod stretch;
-mod tapes;
+
+use rival::counts;
 
 fn main() {
     let words = os::arg_count();

@@ -1,18 +1,18 @@
 // The duel: both boards on the same tapes, in rounds. A round lends both a memory of its own length, with the same pattern in it, starts both from
 // reset, and runs 64 stretches of 64 records. After each stretch the answers and the memories are held against each other.
-use super::counts;
-use super::counts::Tally;
 use super::first;
 use super::first::Run;
-use super::second;
-use super::second::State;
-use super::show;
-use super::stretch;
-use super::stretch::Answers;
-use super::stretch::Memory;
-use super::stretch::Tape;
-use super::tapes;
-use super::tapes::Maker;
+use rival::counts;
+use rival::counts::Tally;
+use rival::second;
+use rival::second::State;
+use rival::show;
+use rival::stretch;
+use rival::stretch::Answers;
+use rival::stretch::Memory;
+use rival::stretch::Tape;
+use rival::tapes;
+use rival::tapes::Maker;
 
 // The lengths of memory, by round.
 const LENGTHS: [u32; 16] = [

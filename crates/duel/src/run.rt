@@ -1,17 +1,17 @@
 // Runs the charts of files: tapes with their answers, as text. Each chart runs on both boards, from reset, over 256 zero bytes of memory: on the second
 // record by record, on the first in lumps. Files are read in lumps too, so they may have any length.
-use super::counts;
-use super::counts::Tally;
 use super::first;
-use super::notation;
-use super::notation::Line;
-use super::second;
-use super::show;
-use super::stretch;
-use super::stretch::Answers;
-use super::stretch::Memory;
-use super::stretch::Tape;
 use libc::STDERR_FILENO;
+use rival::counts;
+use rival::counts::Tally;
+use rival::notation;
+use rival::notation::Line;
+use rival::second;
+use rival::show;
+use rival::stretch;
+use rival::stretch::Answers;
+use rival::stretch::Memory;
+use rival::stretch::Tape;
 
 // Of all files: charts, those that agreed in every record, their records, bad lines, and files that could not be read or have no chart.
 pub struct Totals {

@@ -1,0 +1,125 @@
+// What the tapes do: how often each status, operation and kind of DMA cycle came, counted by the second board's answers.
+use crate::second;
+use crate::show;
+use crate::stretch::Answers;
+use libc::STDOUT_FILENO;
+
+// The counts, in the order in which they are printed: records; calls of the first board, of them those refused with 7, and of these those on a board
+// with a field out of its range; statuses 0 to 6; operations 0 to 6, and any other; kinds of DMA cycle.
+pub struct Tally {
+    pub n: [u64; 32],
+}
+
+pub const RECORDS: usize = 0;
+
+pub const CALLS: usize = 1;
+
+pub const REFUSED: usize = 2;
+
+pub const SPOILT: usize = 3;
+
+const STATUSES: usize = 4;
+
+const OPERATIONS: usize = 11;
+
+const KINDS: usize = 19;
+// Not printed here: differences, calls that were not what they should be, and statuses that no record has.
+pub const DIFFERENCES: usize = 23;
+
+pub const WRONG: usize = 24;
+
+const STRANGE: usize = 25;
+
+pub fn zero() -> Tally {
+    Tally { n: [0; 32] }
+}
+
+pub fn at(tally: Tally, place: usize) -> u64 {
+    let i = place % 32;
+    tally.n[i]
+}
+
+pub fn add(tally: Tally, place: usize, n: u64) -> Tally {
+    let mut next = tally;
+    let i = place % 32;
+    next.n[i] = tally.n[i] % 4294967296 + n % 4294967296;
+    next
+}
+
+// The tally with a count begun anew.
+pub fn cleared(tally: Tally, place: usize) -> Tally {
+    let mut next = tally;
+    let i = place % 32;
+    next.n[i] = 0;
+    next
+}
+
+fn place_of_status(status: u8) -> usize {
+    if status > 6 {
+        return STRANGE;
+    }
+    STATUSES + second::index(second::wide(status)) % 7
+}
+
+fn place_of_operation(op: u8) -> usize {
+    if op > 6 {
+        return OPERATIONS + 7;
+    }
+    OPERATIONS + second::index(second::wide(op)) % 7
+}
+
+fn count_answer(tally: Tally, status: u8, op: u8, kind: u8) -> Tally {
+    let next = add(
+        add(add(tally, RECORDS, 1), place_of_status(status), 1),
+        place_of_operation(op),
+        1,
+    );
+    if (status == 0) & (op == 6) {
+        return add(next, KINDS + second::index(second::wide(kind)) % 4, 1);
+    }
+    next
+}
+
+// The answers of 64 records.
+pub fn count_answers(tally: Tally, answers: &Answers) -> Tally {
+    let mut next = tally;
+    let mut i: usize = 0;
+    while i < 64 {
+        let place = i * 16;
+        next = count_answer(next, answers[place], answers[place + 1], answers[place + 4]);
+        i += 1;
+    }
+    next
+}
+
+pub fn print_all(tally: Tally) {
+    let numbers = tally.n;
+    show::fill(
+        STDOUT_FILENO,
+        b"records: %
+calls: %
+calls refused with 7: %
+of them for a field out of range: %
+status 0: %
+status 1: %
+status 2: %
+status 3: %
+status 4: %
+status 5: %
+status 6: %
+operation 0, reset: %
+operation 1, write: %
+operation 2, read: %
+operation 3, lines: %
+operation 4, acknowledge: %
+operation 5, advance: %
+operation 6, DMA cycle: %
+other operations: %
+cycles, nothing: %
+cycles, granted: %
+cycles, moved: %
+cycles, released: %
+",
+        numbers,
+    );
+}

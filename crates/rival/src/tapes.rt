@@ -1,0 +1,331 @@
+// Tapes from a seed: records steered so that the chips are really used.
+//
+// The maker mostly makes single records, drawn by weights. Now and then it starts a script, which sets a chip up record by record, with single
+// records strewn in: the initializing words of the interrupt chip, a counter's mode and count, a channel with its requests and cycles, or a latch
+// and reads of a counter. In the end one record in thirty-two has a byte changed, whatever that makes of it.
+//
+// Addresses lie near 0, near the memory's end and near FFFFFFH.
+use crate::second;
+
+pub struct Maker {
+    pub seed: u32,
+    // 0 none, 1 interrupt chip, 2 counter, 3 channel, 4 reads of a counter.
+    pub script: u32,
+    pub step: u32,
+    // What the script drew when it began.
+    pub choice: u32,
+    // The memory's length.
+    pub memory: u32,
+}
+
+// A record, and the maker after it.
+pub struct Drawn {
+    pub maker: Maker,
+    pub record: [u8; 8],
+}
+
+// A maker for each seed; 0 and 1 make the same tape.
+pub fn start(seed: u32, memory: u32) -> Maker {
+    Maker {
+        seed: turn(turn(turn(second::choose(seed == 0, 1, seed)))),
+        script: 0,
+        step: 0,
+        choice: 0,
+        memory: memory,
+    }
+}
+
+// Marsaglia's xorshift on 32 bits: every number but 0 comes once in a round of 2^32 - 1.
+pub fn turn(x: u32) -> u32 {
+    let a = x ^ x << 13;
+    let b = a ^ a >> 17;
+    b ^ b << 5
+}
+
+fn low(x: u32) -> u8 {
+    (x % 256) as u8
+}
+
+fn record_of(op: u32, a: u32, b: u32) -> [u8; 8] {
+    [low(op), low(a), low(b), 0, 0, 0, 0, 0]
+}
+
+fn write_of(port: u32, data: u32) -> [u8; 8] {
+    record_of(1, port, data)
+}
+
+fn read_of(port: u32) -> [u8; 8] {
+    record_of(2, port, 0)
+}
+
+// x where the draw is a multiple of n, else 0.
+fn seldom(draw: u32, n: u32, x: u32) -> u32 {
+    second::choose(draw % (n % 256 + 1) == 0, x, 0)
+}
+
+// Single records.
+
+// Now and then one pulse more than a record may ask for.
+fn advance(y: u32) -> [u8; 8] {
+    let few = second::choose(y / 16 % 8 == 0, y / 256, y % 12 + 1);
+    let many = second::choose(y / 16 % 256 == 0, y / 65536, 0);
+    if y / 16 % 256 == 1 {
+        return [5, 0, 0, 0, 0, 0, 1, 0];
+    }
+    [5, 0, 0, 0, low(few), low(many), 0, 0]
+}
+
+fn cycle(y: u32) -> [u8; 8] {
+    record_of(6, seldom(y, 13, 1), y / 256)
+}
+
+// One in 32 records of lines has a level that its group lacks.
+fn stray(y: u32, level: u32) -> u32 {
+    seldom(y / 65536, 31, level)
+}
+
+// PFCW and MCW, each command twice or once, with levels.
+const COMMANDS: [u32; 16] = [
+    0x20,
+    0x20,
+    0x60,
+    0x60,
+    0xA0,
+    0xA0,
+    0xE0,
+    0xC0,
+    0x80,
+    0x80,
+    0x00,
+    0x40,
+    0x0A,
+    0x0B,
+    0x48,
+    0x68,
+];
+
+fn command(y: u32) -> [u8; 8] {
+    let row = second::index(y) % 16;
+    let word = COMMANDS[row];
+    let rest = second::choose(word % 16 == 0, y / 256 % 8, seldom(y / 256, 11, 4));
+    write_of(0, word | rest)
+}
+
+fn mask(y: u32) -> [u8; 8] {
+    write_of(1, y & y >> 8 & y >> 16)
+}
+
+// Small counts, 1 and 0 among them.
+const COUNTS: [u32; 8] = [1, 2, 3, 1, 0, 5, 1, 4];
+
+fn small_count(y: u32) -> u32 {
+    let row = second::index(y) % 8;
+    COUNTS[row]
+}
+
+// The weights, in sixty-fourths. The last is a reset, or seven times in eight an acknowledge.
+fn single(x: u32, y: u32) -> [u8; 8] {
+    let k = x % 64;
+    match k {
+        0..=9 => advance(y),
+        10..=19 => cycle(y),
+        20..=25 => record_of(3, 0, y & y >> 8 & 0xFE | stray(y, 1)),
+        26..=28 => record_of(3, 1, (y | y >> 8) % 8 | stray(y, 8)),
+        29..=31 => record_of(3, 2, y % 16 & y >> 8 | stray(y, 16)),
+        32..=39 => record_of(4, 0, 0),
+        40..=45 => command(y),
+        46..=47 => read_of(y % 2),
+        48 => mask(y),
+        49..=52 => read_of(0x10 + y % 3),
+        53 => write_of(0x13, y % 4 * 64 + y / 256 % 16),
+        54..=56 => write_of(0x10 + y % 3, small_count(y / 256)),
+        57..=59 => read_of(0x21 + y % 15),
+        60 => write_of(0x20 + y % 16, y / 256),
+        61 => write_of(y / 256 % 64, y / 65536),
+        62 => read_of(y / 256 % 64),
+        _ => record_of(second::choose(y % 8 == 0, 0, 4), 0, 0),
+    }
+}
+
+// The script of the interrupt chip: IW1, IW2, IW4 and a mask. Three in four announce IW4, one in four is level-triggered.
+
+fn first_word(choice: u32) -> u32 {
+    let bits = choice & 0xE4;
+    bits | 0x12 | seldom(choice / 256, 3, 8) | (1 - seldom(choice / 1024, 3, 1) % 2)
+}
+
+fn icu_step(step: u32, choice: u32, y: u32) -> [u8; 8] {
+    match step {
+        0 => write_of(0, first_word(choice)),
+        1..=2 => write_of(1, y),
+        _ => mask(y),
+    }
+}
+
+// The script of a counter: its mode word, then one or two bytes of a small count.
+
+const MODE_BITS: [u32; 4] = [0x00, 0x04, 0x0C, 0x04];
+
+fn mode_word(choice: u32) -> u32 {
+    let row = second::index(choice / 64) % 4;
+    choice % 3 * 64 + (choice / 4 % 3 + 1) * 16 | MODE_BITS[row]
+}
+
+fn counter_step(step: u32, choice: u32, y: u32) -> [u8; 8] {
+    match step {
+        0 => write_of(0x13, mode_word(choice)),
+        1 => write_of(0x10 + choice % 3, small_count(y)),
+        _ => write_of(0x10 + choice % 3, seldom(y, 7, y / 256 % 3)),
+    }
+}
+
+// The script of a channel: its registers, its request, and some cycles.
+
+const CONTROLS: [u32; 8] = [0x00, 0x10, 0x10, 0x10, 0x00, 0x10, 0x04, 0x14];
+
+fn control(y: u32) -> u32 {
+    let row = second::index(y) % 8;
+    CONTROLS[row]
+}
+
+// Within four places of 0, of FFFFFFH, or, one in two, of the memory's end.
+fn address_of(choice: u32, memory: u32) -> u32 {
+    let near = choice / 64 % 8 + 16777212;
+    let place = choice / 16 % 4;
+    match place {
+        0 => near % 16777216,
+        1 => (near - 4) % 16777216,
+        _ => (near + memory % 16777216) % 16777216,
+    }
+}
+
+fn channel_mode(y: u32) -> u32 {
+    y % 3 * 64 + y / 256 % 4 * 16 + y / 65536 % 3 * 4
+}
+
+fn channel_step(step: u32, choice: u32, memory: u32, y: u32) -> [u8; 8] {
+    let address = address_of(choice, memory);
+    match step {
+        0 => write_of(0x21, choice % 4 | seldom(choice / 1024, 5, 4)),
+        1 => write_of(0x22, y % 6),
+        2 => write_of(0x23, seldom(y, 15, y / 256 % 2 * 255)),
+        3 => write_of(0x24, address),
+        4 => write_of(0x25, address / 256),
+        5 => write_of(0x26, address / 65536),
+        6 => write_of(0x2A, channel_mode(y)),
+        7 => write_of(0x28, control(y)),
+        8 => write_of(0x2F, y & y >> 8 & y >> 16 & 15),
+        9 => record_of(3, 2, (y & y >> 8) % 16 | 1 << (choice % 4)),
+        _ => cycle(y),
+    }
+}
+
+// The script of reads: a latch, pulses, a byte, another latch or a byte, and two bytes.
+
+fn read_step(step: u32, choice: u32, y: u32) -> [u8; 8] {
+    if (step == 0) | ((step == 3) & (choice / 4 % 2 == 0)) {
+        return write_of(0x13, choice % 3 * 64 + y % 16);
+    }
+    if step == 1 {
+        return advance(y);
+    }
+    read_of(0x10 + choice % 3)
+}
+
+fn steps_of(script: u32, choice: u32) -> u32 {
+    match script {
+        1 => 4,
+        2 => second::choose(choice / 4 % 3 == 2, 3, 2),
+        4 => 6,
+        _ => choice / 4096 % 10 + 12,
+    }
+}
+
+fn script_step(script: u32, step: u32, choice: u32, memory: u32, y: u32) -> [u8; 8] {
+    match script {
+        1 => icu_step(step, choice, y),
+        2 => counter_step(step, choice, y),
+        4 => read_step(step, choice, y),
+        _ => channel_step(step, choice, memory, y),
+    }
+}
+
+// One record in thirty-two has a byte changed.
+fn spoiled(record: [u8; 8], x: u32, y: u32) -> [u8; 8] {
+    if x / 65536 % 32 != 0 {
+        return record;
+    }
+    let mut next = record;
+    let at = second::index(x / 2097152) % 8;
+    next[at] = low(y / 131072);
+    next
+}
+
+// Which script begins, if any, at this draw.
+fn begun(x: u32) -> u32 {
+    let k = x / 64 % 64;
+    match k {
+        0..=1 => 1,
+        2..=7 => 2,
+        8..=9 => 3,
+        10..=11 => 4,
+        _ => 0,
+    }
+}
+
+// The maker at another step of its script, with its seed turned.
+fn stepped(m: Maker, seed: u32, script: u32, step: u32) -> Maker {
+    Maker {
+        seed: seed,
+        script: script,
+        step: step,
+        choice: m.choice,
+        memory: m.memory,
+    }
+}
+
+// The maker after a record of its script.
+fn moved_on(m: Maker, y: u32) -> Maker {
+    let next = m.step % 256 + 1;
+    if next < steps_of(m.script, m.choice) {
+        return stepped(m, y, m.script, next);
+    }
+    stepped(m, y, 0, 0)
+}
+
+fn made(m: Maker, x: u32, y: u32) -> Drawn {
+    let single_one = (m.script == 0) | (x / 4096 % 4 == 0);
+    // One in four of a script's records is a single one instead.
+    if single_one {
+        return Drawn {
+            maker: stepped(m, y, m.script, m.step),
+            record: spoiled(single(x, y), x, y),
+        };
+    }
+    let record = script_step(m.script, m.step, m.choice, m.memory, y);
+    Drawn {
+        maker: moved_on(m, y),
+        record: spoiled(record, x, y),
+    }
+}
+
+// A script may begin where none is under way.
+fn prepared(m: Maker, x: u32, z: u32) -> Maker {
+    if m.script != 0 {
+        return m;
+    }
+    Maker {
+        seed: m.seed,
+        script: begun(x),
+        step: 0,
+        choice: z,
+        memory: m.memory,
+    }
+}
+
+// The next record.
+pub fn next_record(m: Maker) -> Drawn {
+    let x = turn(m.seed);
+    let z = turn(x);
+    made(prepared(m, x, z), x, turn(z))
+}
