@@ -4,8 +4,6 @@ use super::first;
 use super::first::Run;
 use rival::counts;
 use rival::counts::Tally;
-use rival::second;
-use rival::second::State;
 use rival::show;
 use rival::stretch;
 use rival::stretch::Answers;
@@ -13,6 +11,7 @@ use rival::stretch::Memory;
 use rival::stretch::Tape;
 use rival::tapes;
 use rival::tapes::Maker;
+use second::State;
 
 // The lengths of memory, by round.
 const LENGTHS: [u32; 16] = [

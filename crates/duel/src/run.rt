@@ -6,7 +6,6 @@ use rival::counts;
 use rival::counts::Tally;
 use rival::notation;
 use rival::notation::Line;
-use rival::second;
 use rival::show;
 use rival::stretch;
 use rival::stretch::Answers;

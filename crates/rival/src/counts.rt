@@ -1,5 +1,4 @@
 // What the tapes do: how often each status, operation and kind of DMA cycle came, counted by the second board's answers.
-use crate::second;
 use crate::show;
 use crate::stretch::Answers;
 use libc::STDOUT_FILENO;

@@ -1,7 +1,6 @@
-// The parts of the program `duel` that do not touch the first board: the second board, its tapes, the charts' notation, the counts and what is printed.
+// The parts of the program `duel` that do not touch the first board: tapes for both boards, the charts' notation, the counts and what is printed.
 pub mod counts;
 pub mod notation;
-pub mod second;
 pub mod show;
 pub mod stretch;
 pub mod tapes;

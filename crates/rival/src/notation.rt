@@ -1,5 +1,4 @@
 // A line of a chart, byte by byte. docs/DUEL.md describes the notation.
-use crate::second;
 
 // What a line has been so far.
 const BLANK: u32 = 0;

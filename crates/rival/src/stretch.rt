@@ -1,8 +1,7 @@
 // A stretch of tape: 64 records at most, with room for their answers. Both boards run it. `differ_at` holds answers against answers and `first_apart`
 // memory against memory; nothing else compares.
-use crate::second;
-use crate::second::Answered;
-use crate::second::State;
+use second::Answered;
+use second::State;
 
 pub type Tape = [u8; 512];
 // The answers of 64 records, and 64 bytes more that no board may write.

@@ -5,7 +5,6 @@
 // and reads of a counter. In the end one record in thirty-two has a byte changed, whatever that makes of it.
 //
 // Addresses lie near 0, near the memory's end and near FFFFFFH.
-use crate::second;
 
 pub struct Maker {
     pub seed: u32,
