@@ -15,13 +15,13 @@ use Rattle.dma.specs.Fields.{chan, served, channels-are}
 use Rattle.dma.specs.Report.{moved}
 use Rattle.dma.specs.Cycle.{Out, plainOf, single, demand, movedOf, memoryOf, byteOf, unitOf, cycleOf}
 
--- the tests of a plain unit, each by itself: serving, no such channel, END, count 0, single, demand, requested
-tests : (v l e z s q r : Bool)
-    → (if v then (if l then false else if e then false else if z then false else if s then false else if q then r else true) else false) ≡ true
+-- the tests of a plain unit, each by itself: serving, no such channel, count 0, END, single, demand, requested
+tests : (v l z e s q r : Bool)
+    → (v and not l and not ((z or e) or s) and (not q or r)) ≡ true
     → (v ≡ true) × (l ≡ false) × (e ≡ false) × (z ≡ false) × (s ≡ false) × ((q and not r) ≡ false)
-tests false l e z s q r h = absurd (true≢false (sym h))
-tests true true e z s q r h = absurd (true≢false (sym h))
-tests true false true z s q r h = absurd (true≢false (sym h))
+tests false l z e s q r h = absurd (true≢false (sym h))
+tests true true z e s q r h = absurd (true≢false (sym h))
+tests true false true e s q r h = absurd (true≢false (sym h))
 tests true false false true s q r h = absurd (true≢false (sym h))
 tests true false false false true q r h = absurd (true≢false (sym h))
 tests true false false false false true true h = (refl, refl, refl, refl, refl, refl)
@@ -50,7 +50,7 @@ module _ (d : Dma) (e : Bool) (k : ℕ) (h : Plain d e k) where
   unfolding plainOf
   each =
       let c = chan d k in
-      tests (d .serving) (leb 4 (d .channel)) e (eqb (c .current .count) 0) (single c) (demand c) (bitOf (d .requests) (d .channel)) h
+      tests (d .serving) (leb 4 (d .channel)) (eqb (c .current .count) 0) e (single c) (demand c) (bitOf (d .requests) (d .channel)) h
 
 -- the served channel in its own place
 straight : (d : Dma) (e : Bool) (b : ℕ) (m : List ℕ) → Plain d e (d .channel) → cycleOf d e b m ≡ goneOn d b m (d .channel) (served d)

@@ -278,8 +278,8 @@ impl Channel {
     }
 }
 
-// Whether a cycle moves a unit of channel n, which is c, and nothing more comes of it: it is not the last, and service goes on. Most units are
-// like that, and such a one changes no other field of the chip.
+// Whether a cycle moves a unit of channel n, which is c, and nothing more comes of it. Most units are like that, and such a one changes no other
+// field of the chip.
 pub fn is_plain(c: Channel, serving: bool, n: u8, requests: u8, end: bool) -> bool
     ensures { λ r. ⌜ r ≡ plainOf c serving n requests end ⌝ }
 {
@@ -287,10 +287,10 @@ pub fn is_plain(c: Channel, serving: bool, n: u8, requests: u8, end: bool) -> bo
         if Dma::CHANNELS <= n {
             return false;
         }
-        if end {
+        if c.current.count == 0 {
             return false;
         }
-        if c.current.count == 0 {
+        if end {
             return false;
         }
         if c.mode / 64 == 1 {

@@ -14,26 +14,26 @@ returns c = rw (c .before .if1 .taken, le-leb _ _ (c .if2 .taken))
 
 returns-2 : tie.Need-returns-2
 unfolding plainOf
-returns-2 c = rw (c .before .before .if1 .taken, lt-leb _ _ (c .before .if2 .left), c .if3 .taken)
+returns-2 c = rw (c .before .before .before .if1 .taken, lt-leb _ _ (c .before .before .if2 .left), eq-eqb _ _ (c .if3 .taken))
 
 returns-3 : tie.Need-returns-3
 unfolding plainOf
-returns-3 c = rw (c .before .before .before .before .if1 .taken, lt-leb _ _ (c .before .before .before .if2 .left), c .before .before .if3 .left, eq-eqb _ _ (c .if4 .taken))
+returns-3 c = rw (c .before .before .before .before .if1 .taken, lt-leb _ _ (c .before .before .before .if2 .left), ne-eqb _ _ (c .before .if3 .left), c .if4 .taken)
 
 returns-4 : tie.Need-returns-4
 unfolding plainOf
-returns-4 c = rw (c .before .before .before .before .before .before .if1 .taken, lt-leb _ _ (c .before .before .before .before .before .if2 .left), c .before .before .before .before .if3 .left, ne-eqb _ _ (c .before .before .if4 .left), eq-eqb _ _ (c .if5 .taken))
+returns-4 c = rw (c .before .before .before .before .before .before .if1 .taken, lt-leb _ _ (c .before .before .before .before .before .if2 .left), ne-eqb _ _ (c .before .before .before .if3 .left), c .before .before .if4 .left, eq-eqb _ _ (c .if5 .taken))
 
 bit-requires : tie.Need-bit-requires
 bit-requires c κs = search needs
 
 returns-5 : tie.Need-returns-5
 unfolding plainOf
-returns-5 c = rw (c .bit .ensures, c .before .before .before .before .before .before .before .before .before .if1 .taken, lt-leb _ _ (c .before .before .before .before .before .before .before .before .if2 .left), c .before .before .before .before .before .before .before .if3 .left, ne-eqb _ _ (c .before .before .before .before .before .if4 .left), ne-eqb _ _ (c .before .before .before .if5 .left), eq-eqb _ _ (c .before .if6 .taken))
+returns-5 c = rw (c .bit .ensures, c .before .before .before .before .before .before .before .before .before .if1 .taken, lt-leb _ _ (c .before .before .before .before .before .before .before .before .if2 .left), ne-eqb _ _ (c .before .before .before .before .before .before .if3 .left), c .before .before .before .before .before .if4 .left, ne-eqb _ _ (c .before .before .before .if5 .left), eq-eqb _ _ (c .before .if6 .taken))
 
 returns-6 : tie.Need-returns-6
 unfolding plainOf
-returns-6 c = rw (c .before .before .before .before .before .before .before .before .if1 .taken, lt-leb _ _ (c .before .before .before .before .before .before .before .if2 .left), c .before .before .before .before .before .before .if3 .left, ne-eqb _ _ (c .before .before .before .before .if4 .left), ne-eqb _ _ (c .before .before .if5 .left), ne-eqb _ _ (c .if6 .left))
+returns-6 c = rw (c .before .before .before .before .before .before .before .before .if1 .taken, lt-leb _ _ (c .before .before .before .before .before .before .before .if2 .left), ne-eqb _ _ (c .before .before .before .before .before .if3 .left), c .before .before .before .before .if4 .left, ne-eqb _ _ (c .before .before .if5 .left), ne-eqb _ _ (c .if6 .left))
 
 returns-7 : tie.Need-returns-7
 unfolding plainOf
