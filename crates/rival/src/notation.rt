@@ -13,7 +13,7 @@ pub const NAME: u32 = 4;
 
 const REMARK: u32 = 5;
 
-// What is wrong with a line: the rows of `run::complain`.
+// What is wrong with a line: the rows of `run::complain` in the program `duel`.
 pub const NOTHING: u32 = 0;
 
 const LETTER: u32 = 1;
