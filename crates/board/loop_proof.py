@@ -115,13 +115,8 @@ def refused_timer(w):
 
 
 def wrote_dma(w):
-    a, b, c = tests(w)
-    return f"{free(w, 'wrote-dma')} _ _ {is_op(w)} ({a} .left) ({b} .left) _ {ensures(w, 'write')} ({c} .taken)"
-
-
-def refused_dma(w):
-    a, b, c = tests(w)
-    return f"{free(w, 'refused-dma')} _ _ {is_op(w)} ({a} .left) ({b} .left) _ {ensures(w, 'write')} ({c} .left)"
+    a, b = tests(w)
+    return f"{free(w, 'wrote-dma')} _ _ {is_op(w)} ({a} .left) ({b} .left) _ {ensures(w, 'write')}"
 
 
 def read_icu(w):
@@ -176,7 +171,6 @@ ARMS = [
     (wrote_timer, None),
     (refused_timer, None),
     (wrote_dma, None),
-    (refused_dma, None),
     (read_icu, None),
     (read_timer, None),
     (read_dma, None),
@@ -198,7 +192,7 @@ def again(w, law, lent):
     return f"""
     let l = {w('loop')} in
     let a = {w('args')} in
-    let p = {w.last('tell')} in
+    let p = {w.last('tell(?:-plain)?')} in
     let q = {w('record-at')} in
     let n : Board = record {{ icu = l .icu; intp = l .intp; timer = l .timer; dma = l .dma; kept = a .self .kept }} in
     round (a .self) (a .memory .now) (take (a .size) (a .kept) ++ a .tape .now)
@@ -219,7 +213,7 @@ def answer(name, w, arm):
         return f"(search needs, refl, refl, refl, refl, refl, {w('levels')} .ensures)"
     if stem == "record-at-requires":
         return f"omega (arith, {w('count-bytes')} .ensures .1, {w('least')} .ensures .1 .0, {w('loop-test')} .taken)"
-    if stem == "tell-requires":
+    if stem in ("tell-requires", "tell-plain-requires"):
         return f"omega (arith, {room})"
     if stem == "add-i":
         return f"omega (arith, {room}, {w('good')})"
@@ -262,7 +256,7 @@ use Rattle.board.proofs.Board.run.Reads as reads
 use Rattle.board.proofs.Board.run.Lts as lts
 """
 
-LAWS = "malformed, held-up, reset, wrote-icu, wrote-timer, refused-timer, wrote-dma, refused-dma, read-icu, read-timer, read-dma, intp, gates, requests, acknowledge, advance, plain-unit, cycle-by-call"
+LAWS = "malformed, held-up, reset, wrote-icu, wrote-timer, refused-timer, wrote-dma, read-icu, read-timer, read-dma, intp, gates, requests, acknowledge, advance, plain-unit, cycle-by-call"
 
 
 # ---- what rt makes of the function

@@ -3,3 +3,4 @@ pub mod Looks
 pub mod Numbers
 pub mod Plain
 pub mod Ranks
+pub mod Writes
