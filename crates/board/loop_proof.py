@@ -49,7 +49,7 @@ class Way:
         return self.facts[name]
 
     def last(self, stem):
-        """The newest fact of that name, whatever its number."""
+        """The newest fact of a name that the pattern fits, whatever its number."""
         for name in self.facts:
             if re.fullmatch(stem + r"\d*", name):
                 return self.facts[name]
@@ -192,7 +192,7 @@ def again(w, law, lent):
     return f"""
     let l = {w('loop')} in
     let a = {w('args')} in
-    let p = {w.last('tell(?:-plain)?')} in
+    let p = {w.last('tell(?:-bare)?')} in
     let q = {w('record-at')} in
     let n : Board = record {{ icu = l .icu; intp = l .intp; timer = l .timer; dma = l .dma; kept = a .self .kept }} in
     round (a .self) (a .memory .now) (take (a .size) (a .kept) ++ a .tape .now)
@@ -213,7 +213,7 @@ def answer(name, w, arm):
         return f"(search needs, refl, refl, refl, refl, refl, {w('levels')} .ensures)"
     if stem == "record-at-requires":
         return f"omega (arith, {w('count-bytes')} .ensures .1, {w('least')} .ensures .1 .0, {w('loop-test')} .taken)"
-    if stem in ("tell-requires", "tell-plain-requires"):
+    if stem in ("tell-requires", "tell-bare-requires"):
         return f"omega (arith, {room})"
     if stem == "add-i":
         return f"omega (arith, {room}, {w('good')})"

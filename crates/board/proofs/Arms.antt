@@ -64,7 +64,7 @@ read-leaves c k x = by (IcuWords.ready c) k (c .showsisr)
     by false q s = refl
 
 module _ (b : Board) where
-  -- what a chip shows is told, or refused by number with nothing shown and nothing changed
+  -- what a chip answers is told, or refused by number with nothing shown and nothing changed
   shown-as : (s : ℕ) (b′ : Board) (x : ℕ) (q : Bool) → eqb s 0 ≡ q
       → (eqb s 0 ≡ false → (b′ ≡ b) × (x ≡ 0))
       → (if q then telling b′ x else refused s b) ≡ record { status = s; board = b′; byte = x; payload = twelve [] }

@@ -445,7 +445,7 @@ fn tell(to: &mut [u8], i: usize, status: u8, op: u8, byte: u8, levels: u8, paylo
 }
 
 // The same with an empty payload. It is a function of its own because the loop's proof grows with what the loop has to hold.
-fn tell_plain(to: &mut [u8], i: usize, status: u8, op: u8, byte: u8, levels: u8)
+fn tell_bare(to: &mut [u8], i: usize, status: u8, op: u8, byte: u8, levels: u8)
     requires { ⌜ 16 * i + 16 ≤ length (now to) ⌝ }
     ensures { λ _. ⌜ now (to .exit) ≡ paste (now (to .entry)) (16 * i) (answerOf status op byte levels (twelve [])) 16 ⌝ }
 {
@@ -520,12 +520,12 @@ impl Board {
             let d = tape::decode(r);
             // not a record at all
             let Decoded::Asked(o) = d else {
-                tell_plain(answers, i, 2, op, 0, levels);
+                tell_bare(answers, i, 2, op, 0, levels);
                 continue;
             };
             // the bus is with a DMA channel
             if is_blocked(dma.serving, o) {
-                tell_plain(answers, i, 1, op, 0, levels);
+                tell_bare(answers, i, 1, op, 0, levels);
                 continue;
             }
             match o {
@@ -536,7 +536,7 @@ impl Board {
                     timer = Timer::reset();
                     dma = Dma::reset();
                     levels = 0;
-                    tell_plain(answers, i, 0, op, 0, levels);
+                    tell_bare(answers, i, 0, op, 0, levels);
                     continue;
                 }
                 // the chip that the port's high digit names: 0 interrupt chip, 1 timer, 2 DMA chip
@@ -559,16 +559,16 @@ impl Board {
                             icu = wired.icu;
                             timer = after;
                             levels = wired.levels;
-                            tell_plain(answers, i, 0, op, 0, levels);
+                            tell_bare(answers, i, 0, op, 0, levels);
                             continue;
                         }
-                        tell_plain(answers, i, w.status, op, 0, levels);
+                        tell_bare(answers, i, w.status, op, 0, levels);
                         continue;
                     }
                     // a refused write gives the chip as it was
                     let w = dma.write(port, x);
                     dma = w.dma;
-                    tell_plain(answers, i, w.status, op, 0, levels);
+                    tell_bare(answers, i, w.status, op, 0, levels);
                     continue;
                 }
                 // likewise; no level changes
@@ -588,12 +588,12 @@ impl Board {
                         c.latched = s.latched;
                         c.second = s.second;
                         timer.counters[n] = c;
-                        tell_plain(answers, i, s.status, op, s.byte, levels);
+                        tell_bare(answers, i, s.status, op, s.byte, levels);
                         continue;
                     }
                     let s = dma.look(port);
                     dma.ends = s.ends;
-                    tell_plain(answers, i, s.status, op, s.byte, levels);
+                    tell_bare(answers, i, s.status, op, s.byte, levels);
                     continue;
                 }
                 // INTP1 to INTP7; INTP0 is OUT0
@@ -602,7 +602,7 @@ impl Board {
                     icu = wired.icu;
                     intp = x;
                     levels = wired.levels;
-                    tell_plain(answers, i, 0, op, 0, levels);
+                    tell_bare(answers, i, 0, op, 0, levels);
                     continue;
                 }
                 // a gate's fall may set OUT0 high
@@ -612,12 +612,12 @@ impl Board {
                     icu = wired.icu;
                     timer = after;
                     levels = wired.levels;
-                    tell_plain(answers, i, 0, op, 0, levels);
+                    tell_bare(answers, i, 0, op, 0, levels);
                     continue;
                 }
                 Operation::Requests(x) => {
                     dma = dma.set_requests(x);
-                    tell_plain(answers, i, 0, op, 0, levels);
+                    tell_bare(answers, i, 0, op, 0, levels);
                     continue;
                 }
                 // the interrupt chip gives the vector or the CALL

@@ -32,7 +32,7 @@ use Rattle.board.proofs.rewire.Reads as rewire-reads
 use Rattle.board.proofs.rises_payload.Reads as rises-payload-reads
 use Rattle.board.proofs.run_pulses.Reads as run-pulses-reads
 use Rattle.board.proofs.tell.Reads as tell-reads
-use Rattle.board.proofs.tell_plain.Reads as tell-plain-reads
+use Rattle.board.proofs.tell_bare.Reads as tell-bare-reads
 use Rattle.board.proofs.write_icu.Reads as write-icu-reads
 use Rattle.dma.proofs.Channel.advance.Reads as channel-advance-reads
 use Rattle.dma.proofs.Channel.transfer.Reads as channel-transfer-reads
@@ -91,8 +91,8 @@ enum-known-d c = search needs
 enum-told : tie.Need-enum-told Inv-loop μ-loop
 enum-told c = search needs
 
-tell-plain-requires : tie.Need-tell-plain-requires Inv-loop μ-loop
-tell-plain-requires c κs = omega (arith, c .before .before .before .before .before .before .loop .inv .2, c .before .before .before .before .before .before .before .before .before .before .before .least .ensures .1 .1, c .before .before .before .before .before .loop-test .taken)
+tell-bare-requires : tie.Need-tell-bare-requires Inv-loop μ-loop
+tell-bare-requires c κs = omega (arith, c .before .before .before .before .before .before .loop .inv .2, c .before .before .before .before .before .before .before .before .before .before .before .least .ensures .1 .1, c .before .before .before .before .before .loop-test .taken)
 
 add-i : tie.Need-add-i Inv-loop μ-loop
 add-i c = omega (arith, c .before .before .before .before .before .before .before .before .before .loop .inv .2, c .before .before .before .before .before .before .before .before .before .before .before .before .before .before .least .ensures .1 .1, c .before .before .before .before .before .before .before .before .loop-test .taken, c .before .before .before .before .before .before .before .before .before .before .before .before .before .before .before .before .before .before .before .before .good)
@@ -104,7 +104,7 @@ loop-again : tie.Need-loop-again Inv-loop μ-loop
 loop-again c =
     let l = c .before .before .before .before .before .before .before .before .before .loop in
     let a = c .before .before .before .before .before .before .before .before .before .before .before .before .before .before .before .before .before .before .before .before .args in
-    let p = c .before .before .tell-plain in
+    let p = c .before .before .tell-bare in
     let q = c .before .before .before .before .before .before .before .record-at in
     let n : Board = record { icu = l .icu; intp = l .intp; timer = l .timer; dma = l .dma; kept = a .self .kept } in
     round (a .self) (a .memory .now) (take (a .size) (a .kept) ++ a .tape .now)
@@ -115,8 +115,8 @@ loop-again c =
 is-blocked-requires : tie.Need-is-blocked-requires Inv-loop μ-loop
 is-blocked-requires c κs = search needs
 
-tell-plain-requires-2 : tie.Need-tell-plain-requires-2 Inv-loop μ-loop
-tell-plain-requires-2 c κs = omega (arith, c .before .before .before .before .before .before .before .before .before .loop .inv .2, c .before .before .before .before .before .before .before .before .before .before .before .before .before .before .least .ensures .1 .1, c .before .before .before .before .before .before .before .before .loop-test .taken)
+tell-bare-requires-2 : tie.Need-tell-bare-requires-2 Inv-loop μ-loop
+tell-bare-requires-2 c κs = omega (arith, c .before .before .before .before .before .before .before .before .before .loop .inv .2, c .before .before .before .before .before .before .before .before .before .before .before .before .before .before .least .ensures .1 .1, c .before .before .before .before .before .before .before .before .loop-test .taken)
 
 add-i-2 : tie.Need-add-i-2 Inv-loop μ-loop
 add-i-2 c = omega (arith, c .before .before .before .before .before .before .before .before .before .before .before .before .loop .inv .2, c .before .before .before .before .before .before .before .before .before .before .before .before .before .before .before .before .before .least .ensures .1 .1, c .before .before .before .before .before .before .before .before .before .before .before .loop-test .taken, c .before .before .before .before .before .before .before .before .before .before .before .before .before .before .before .before .before .before .before .before .before .before .before .good)
@@ -128,7 +128,7 @@ loop-again-2 : tie.Need-loop-again-2 Inv-loop μ-loop
 loop-again-2 c =
     let l = c .before .before .before .before .before .before .before .before .before .before .before .before .loop in
     let a = c .before .before .before .before .before .before .before .before .before .before .before .before .before .before .before .before .before .before .before .before .before .before .before .args in
-    let p = c .before .before .tell-plain2 in
+    let p = c .before .before .tell-bare2 in
     let q = c .before .before .before .before .before .before .before .before .before .before .record-at in
     let n : Board = record { icu = l .icu; intp = l .intp; timer = l .timer; dma = l .dma; kept = a .self .kept } in
     round (a .self) (a .memory .now) (take (a .size) (a .kept) ++ a .tape .now)
@@ -148,8 +148,8 @@ reset-requires-2 c κs = search needs
 reset-requires-3 : tie.Need-reset-requires-3 Inv-loop μ-loop
 reset-requires-3 c κs = search needs
 
-tell-plain-requires-3 : tie.Need-tell-plain-requires-3 Inv-loop μ-loop
-tell-plain-requires-3 c κs = omega (arith, c .before .before .before .before .before .before .before .before .before .before .before .before .before .before .loop .inv .2, c .before .before .before .before .before .before .before .before .before .before .before .before .before .before .before .before .before .before .before .least .ensures .1 .1, c .before .before .before .before .before .before .before .before .before .before .before .before .before .loop-test .taken)
+tell-bare-requires-3 : tie.Need-tell-bare-requires-3 Inv-loop μ-loop
+tell-bare-requires-3 c κs = omega (arith, c .before .before .before .before .before .before .before .before .before .before .before .before .before .before .loop .inv .2, c .before .before .before .before .before .before .before .before .before .before .before .before .before .before .before .before .before .before .before .least .ensures .1 .1, c .before .before .before .before .before .before .before .before .before .before .before .before .before .loop-test .taken)
 
 add-i-3 : tie.Need-add-i-3 Inv-loop μ-loop
 add-i-3 c = omega (arith, c .before .before .before .before .before .before .before .before .before .before .before .before .before .before .before .before .before .loop .inv .2, c .before .before .before .before .before .before .before .before .before .before .before .before .before .before .before .before .before .before .before .before .before .before .least .ensures .1 .1, c .before .before .before .before .before .before .before .before .before .before .before .before .before .before .before .before .loop-test .taken, c .before .before .before .before .before .before .before .before .before .before .before .before .before .before .before .before .before .before .before .before .before .before .before .before .before .before .before .before .good)
@@ -161,7 +161,7 @@ loop-again-3 : tie.Need-loop-again-3 Inv-loop μ-loop
 loop-again-3 c =
     let l = c .before .before .before .before .before .before .before .before .before .before .before .before .before .before .before .before .before .loop in
     let a = c .before .before .before .before .before .before .before .before .before .before .before .before .before .before .before .before .before .before .before .before .before .before .before .before .before .before .before .before .args in
-    let p = c .before .before .tell-plain3 in
+    let p = c .before .before .tell-bare3 in
     let q = c .before .before .before .before .before .before .before .before .before .before .before .before .before .before .before .record-at in
     let n : Board = record { icu = l .icu; intp = l .intp; timer = l .timer; dma = l .dma; kept = a .self .kept } in
     round (a .self) (a .memory .now) (take (a .size) (a .kept) ++ a .tape .now)
@@ -205,8 +205,8 @@ write-requires c κs = search needs
 rewire-requires : tie.Need-rewire-requires Inv-loop μ-loop
 rewire-requires c κs = search needs
 
-tell-plain-requires-4 : tie.Need-tell-plain-requires-4 Inv-loop μ-loop
-tell-plain-requires-4 c κs = omega (arith, c .before .before .before .before .before .before .before .before .before .before .before .before .before .before .before .before .before .before .before .before .loop .inv .2, c .before .before .before .before .before .before .before .before .before .before .before .before .before .before .before .before .before .before .before .before .before .before .before .before .before .least .ensures .1 .1, c .before .before .before .before .before .before .before .before .before .before .before .before .before .before .before .before .before .before .before .loop-test .taken)
+tell-bare-requires-4 : tie.Need-tell-bare-requires-4 Inv-loop μ-loop
+tell-bare-requires-4 c κs = omega (arith, c .before .before .before .before .before .before .before .before .before .before .before .before .before .before .before .before .before .before .before .before .loop .inv .2, c .before .before .before .before .before .before .before .before .before .before .before .before .before .before .before .before .before .before .before .before .before .before .before .before .before .least .ensures .1 .1, c .before .before .before .before .before .before .before .before .before .before .before .before .before .before .before .before .before .before .before .loop-test .taken)
 
 add-i-5 : tie.Need-add-i-5 Inv-loop μ-loop
 add-i-5 c = omega (arith, c .before .before .before .before .before .before .before .before .before .before .before .before .before .before .before .before .before .before .before .before .before .before .before .loop .inv .2, c .before .before .before .before .before .before .before .before .before .before .before .before .before .before .before .before .before .before .before .before .before .before .before .before .before .before .before .before .least .ensures .1 .1, c .before .before .before .before .before .before .before .before .before .before .before .before .before .before .before .before .before .before .before .before .before .before .loop-test .taken, c .before .before .before .before .before .before .before .before .before .before .before .before .before .before .before .before .before .before .before .before .before .before .before .before .before .before .before .before .before .before .before .before .before .before .good)
@@ -218,7 +218,7 @@ loop-again-5 : tie.Need-loop-again-5 Inv-loop μ-loop
 loop-again-5 c =
     let l = c .before .before .before .before .before .before .before .before .before .before .before .before .before .before .before .before .before .before .before .before .before .before .before .loop in
     let a = c .before .before .before .before .before .before .before .before .before .before .before .before .before .before .before .before .before .before .before .before .before .before .before .before .before .before .before .before .before .before .before .before .before .before .args in
-    let p = c .before .before .tell-plain4 in
+    let p = c .before .before .tell-bare4 in
     let q = c .before .before .before .before .before .before .before .before .before .before .before .before .before .before .before .before .before .before .before .before .before .record-at in
     let n : Board = record { icu = l .icu; intp = l .intp; timer = l .timer; dma = l .dma; kept = a .self .kept } in
     round (a .self) (a .memory .now) (take (a .size) (a .kept) ++ a .tape .now)
@@ -226,8 +226,8 @@ loop-again-5 c =
     (l .i) n _ (l .memory) (q .result) (l .memory) (l .answers) (p .last .0) (a .answers .now) _ _
     (l .inv .3) (l .inv .4) (l .inv .5) (q .ensures) (wrote-timer n (q .result) (l .memory) (l .levels) (l .inv .6) _ (sym (c .before .before .before .before .before .before .before .before .before .before .before .before .before .before .before .before .before .before .before .before .decode .ensures) ∙ c .before .before .before .before .before .before .before .before .before .before .before .before .before .before .before .before .before .before .d .given .1) (sym (c .before .before .before .before .before .before .before .before .before .before .before .before .before .before .before .before .is-blocked .ensures) ∙ c .before .before .before .before .before .before .before .before .before .before .before .before .before .before .before .if1 .left) _ _ (c .before .before .before .before .before .before .before .before .before .before .before .before .before .o .given .1) (c .before .before .before .before .before .before .before .before .before .before .before .if2 .left) (c .before .before .before .before .before .before .before .before .before .before .if3 .taken) _ (c .before .before .before .before .before .before .before .before .before .write .ensures) (c .before .before .before .before .before .before .before .if4 .taken) _ (c .before .before .before .before .before .rewire .ensures)) (p .ensures)
 
-tell-plain-requires-5 : tie.Need-tell-plain-requires-5 Inv-loop μ-loop
-tell-plain-requires-5 c κs = omega (arith, c .before .before .before .before .before .before .before .before .before .before .before .before .before .before .before .before .before .loop .inv .2, c .before .before .before .before .before .before .before .before .before .before .before .before .before .before .before .before .before .before .before .before .before .before .least .ensures .1 .1, c .before .before .before .before .before .before .before .before .before .before .before .before .before .before .before .before .loop-test .taken)
+tell-bare-requires-5 : tie.Need-tell-bare-requires-5 Inv-loop μ-loop
+tell-bare-requires-5 c κs = omega (arith, c .before .before .before .before .before .before .before .before .before .before .before .before .before .before .before .before .before .loop .inv .2, c .before .before .before .before .before .before .before .before .before .before .before .before .before .before .before .before .before .before .before .before .before .before .least .ensures .1 .1, c .before .before .before .before .before .before .before .before .before .before .before .before .before .before .before .before .loop-test .taken)
 
 add-i-6 : tie.Need-add-i-6 Inv-loop μ-loop
 add-i-6 c = omega (arith, c .before .before .before .before .before .before .before .before .before .before .before .before .before .before .before .before .before .before .before .before .loop .inv .2, c .before .before .before .before .before .before .before .before .before .before .before .before .before .before .before .before .before .before .before .before .before .before .before .before .before .least .ensures .1 .1, c .before .before .before .before .before .before .before .before .before .before .before .before .before .before .before .before .before .before .before .loop-test .taken, c .before .before .before .before .before .before .before .before .before .before .before .before .before .before .before .before .before .before .before .before .before .before .before .before .before .before .before .before .before .before .before .good)
@@ -239,7 +239,7 @@ loop-again-6 : tie.Need-loop-again-6 Inv-loop μ-loop
 loop-again-6 c =
     let l = c .before .before .before .before .before .before .before .before .before .before .before .before .before .before .before .before .before .before .before .before .loop in
     let a = c .before .before .before .before .before .before .before .before .before .before .before .before .before .before .before .before .before .before .before .before .before .before .before .before .before .before .before .before .before .before .before .args in
-    let p = c .before .before .tell-plain5 in
+    let p = c .before .before .tell-bare5 in
     let q = c .before .before .before .before .before .before .before .before .before .before .before .before .before .before .before .before .before .before .record-at in
     let n : Board = record { icu = l .icu; intp = l .intp; timer = l .timer; dma = l .dma; kept = a .self .kept } in
     round (a .self) (a .memory .now) (take (a .size) (a .kept) ++ a .tape .now)
@@ -250,8 +250,8 @@ loop-again-6 c =
 write-requires-2 : tie.Need-write-requires-2 Inv-loop μ-loop
 write-requires-2 c κs = search needs
 
-tell-plain-requires-6 : tie.Need-tell-plain-requires-6 Inv-loop μ-loop
-tell-plain-requires-6 c κs = omega (arith, c .before .before .before .before .before .before .before .before .before .before .before .before .before .before .before .before .loop .inv .2, c .before .before .before .before .before .before .before .before .before .before .before .before .before .before .before .before .before .before .before .before .before .least .ensures .1 .1, c .before .before .before .before .before .before .before .before .before .before .before .before .before .before .before .loop-test .taken)
+tell-bare-requires-6 : tie.Need-tell-bare-requires-6 Inv-loop μ-loop
+tell-bare-requires-6 c κs = omega (arith, c .before .before .before .before .before .before .before .before .before .before .before .before .before .before .before .before .loop .inv .2, c .before .before .before .before .before .before .before .before .before .before .before .before .before .before .before .before .before .before .before .before .before .least .ensures .1 .1, c .before .before .before .before .before .before .before .before .before .before .before .before .before .before .before .loop-test .taken)
 
 add-i-7 : tie.Need-add-i-7 Inv-loop μ-loop
 add-i-7 c = omega (arith, c .before .before .before .before .before .before .before .before .before .before .before .before .before .before .before .before .before .before .before .loop .inv .2, c .before .before .before .before .before .before .before .before .before .before .before .before .before .before .before .before .before .before .before .before .before .before .before .before .least .ensures .1 .1, c .before .before .before .before .before .before .before .before .before .before .before .before .before .before .before .before .before .before .loop-test .taken, c .before .before .before .before .before .before .before .before .before .before .before .before .before .before .before .before .before .before .before .before .before .before .before .before .before .before .before .before .before .before .good)
@@ -263,7 +263,7 @@ loop-again-7 : tie.Need-loop-again-7 Inv-loop μ-loop
 loop-again-7 c =
     let l = c .before .before .before .before .before .before .before .before .before .before .before .before .before .before .before .before .before .before .before .loop in
     let a = c .before .before .before .before .before .before .before .before .before .before .before .before .before .before .before .before .before .before .before .before .before .before .before .before .before .before .before .before .before .before .args in
-    let p = c .before .before .tell-plain6 in
+    let p = c .before .before .tell-bare6 in
     let q = c .before .before .before .before .before .before .before .before .before .before .before .before .before .before .before .before .before .record-at in
     let n : Board = record { icu = l .icu; intp = l .intp; timer = l .timer; dma = l .dma; kept = a .self .kept } in
     round (a .self) (a .memory .now) (take (a .size) (a .kept) ++ a .tape .now)
@@ -319,8 +319,8 @@ mul-c-2 c = search needs
 element-set-from-c : tie.Need-element-set-from-c Inv-loop μ-loop
 element-set-from-c c = search needs
 
-tell-plain-requires-7 : tie.Need-tell-plain-requires-7 Inv-loop μ-loop
-tell-plain-requires-7 c κs = omega (arith, c .before .before .before .before .before .before .before .before .before .before .before .before .before .before .before .before .loop .inv .2, c .before .before .before .before .before .before .before .before .before .before .before .before .before .before .before .before .before .before .before .before .before .least .ensures .1 .1, c .before .before .before .before .before .before .before .before .before .before .before .before .before .before .before .loop-test .taken)
+tell-bare-requires-7 : tie.Need-tell-bare-requires-7 Inv-loop μ-loop
+tell-bare-requires-7 c κs = omega (arith, c .before .before .before .before .before .before .before .before .before .before .before .before .before .before .before .before .loop .inv .2, c .before .before .before .before .before .before .before .before .before .before .before .before .before .before .before .before .before .before .before .before .before .least .ensures .1 .1, c .before .before .before .before .before .before .before .before .before .before .before .before .before .before .before .loop-test .taken)
 
 add-i-9 : tie.Need-add-i-9 Inv-loop μ-loop
 add-i-9 c = omega (arith, c .before .before .before .before .before .before .before .before .before .before .before .before .before .before .before .before .before .before .before .loop .inv .2, c .before .before .before .before .before .before .before .before .before .before .before .before .before .before .before .before .before .before .before .before .before .before .before .before .least .ensures .1 .1, c .before .before .before .before .before .before .before .before .before .before .before .before .before .before .before .before .before .before .loop-test .taken, c .before .before .before .before .before .before .before .before .before .before .before .before .before .before .before .before .before .before .before .before .before .before .before .before .before .before .before .before .before .before .good)
@@ -332,7 +332,7 @@ loop-again-9 : tie.Need-loop-again-9 Inv-loop μ-loop
 loop-again-9 c =
     let l = c .before .before .before .before .before .before .before .before .before .before .before .before .before .before .before .before .before .before .before .loop in
     let a = c .before .before .before .before .before .before .before .before .before .before .before .before .before .before .before .before .before .before .before .before .before .before .before .before .before .before .before .before .before .before .args in
-    let p = c .before .before .tell-plain7 in
+    let p = c .before .before .tell-bare7 in
     let q = c .before .before .before .before .before .before .before .before .before .before .before .before .before .before .before .before .before .record-at in
     let n : Board = record { icu = l .icu; intp = l .intp; timer = l .timer; dma = l .dma; kept = a .self .kept } in
     round (a .self) (a .memory .now) (take (a .size) (a .kept) ++ a .tape .now)
@@ -343,8 +343,8 @@ loop-again-9 c =
 look-requires-2 : tie.Need-look-requires-2 Inv-loop μ-loop
 look-requires-2 c κs = search needs
 
-tell-plain-requires-8 : tie.Need-tell-plain-requires-8 Inv-loop μ-loop
-tell-plain-requires-8 c κs = omega (arith, c .before .before .before .before .before .before .before .before .before .before .before .before .before .before .before .loop .inv .2, c .before .before .before .before .before .before .before .before .before .before .before .before .before .before .before .before .before .before .before .before .least .ensures .1 .1, c .before .before .before .before .before .before .before .before .before .before .before .before .before .before .loop-test .taken)
+tell-bare-requires-8 : tie.Need-tell-bare-requires-8 Inv-loop μ-loop
+tell-bare-requires-8 c κs = omega (arith, c .before .before .before .before .before .before .before .before .before .before .before .before .before .before .before .loop .inv .2, c .before .before .before .before .before .before .before .before .before .before .before .before .before .before .before .before .before .before .before .before .least .ensures .1 .1, c .before .before .before .before .before .before .before .before .before .before .before .before .before .before .loop-test .taken)
 
 add-i-10 : tie.Need-add-i-10 Inv-loop μ-loop
 add-i-10 c = omega (arith, c .before .before .before .before .before .before .before .before .before .before .before .before .before .before .before .before .before .before .loop .inv .2, c .before .before .before .before .before .before .before .before .before .before .before .before .before .before .before .before .before .before .before .before .before .before .before .least .ensures .1 .1, c .before .before .before .before .before .before .before .before .before .before .before .before .before .before .before .before .before .loop-test .taken, c .before .before .before .before .before .before .before .before .before .before .before .before .before .before .before .before .before .before .before .before .before .before .before .before .before .before .before .before .before .good)
@@ -356,7 +356,7 @@ loop-again-10 : tie.Need-loop-again-10 Inv-loop μ-loop
 loop-again-10 c =
     let l = c .before .before .before .before .before .before .before .before .before .before .before .before .before .before .before .before .before .before .loop in
     let a = c .before .before .before .before .before .before .before .before .before .before .before .before .before .before .before .before .before .before .before .before .before .before .before .before .before .before .before .before .before .args in
-    let p = c .before .before .tell-plain8 in
+    let p = c .before .before .tell-bare8 in
     let q = c .before .before .before .before .before .before .before .before .before .before .before .before .before .before .before .before .record-at in
     let n : Board = record { icu = l .icu; intp = l .intp; timer = l .timer; dma = l .dma; kept = a .self .kept } in
     round (a .self) (a .memory .now) (take (a .size) (a .kept) ++ a .tape .now)
@@ -370,8 +370,8 @@ enum-known-o-3 c = search needs
 rewire-requires-2 : tie.Need-rewire-requires-2 Inv-loop μ-loop
 rewire-requires-2 c κs = search needs
 
-tell-plain-requires-9 : tie.Need-tell-plain-requires-9 Inv-loop μ-loop
-tell-plain-requires-9 c κs = omega (arith, c .before .before .before .before .before .before .before .before .before .before .before .before .before .before .loop .inv .2, c .before .before .before .before .before .before .before .before .before .before .before .before .before .before .before .before .before .before .before .least .ensures .1 .1, c .before .before .before .before .before .before .before .before .before .before .before .before .before .loop-test .taken)
+tell-bare-requires-9 : tie.Need-tell-bare-requires-9 Inv-loop μ-loop
+tell-bare-requires-9 c κs = omega (arith, c .before .before .before .before .before .before .before .before .before .before .before .before .before .before .loop .inv .2, c .before .before .before .before .before .before .before .before .before .before .before .before .before .before .before .before .before .before .before .least .ensures .1 .1, c .before .before .before .before .before .before .before .before .before .before .before .before .before .loop-test .taken)
 
 add-i-11 : tie.Need-add-i-11 Inv-loop μ-loop
 add-i-11 c = omega (arith, c .before .before .before .before .before .before .before .before .before .before .before .before .before .before .before .before .before .loop .inv .2, c .before .before .before .before .before .before .before .before .before .before .before .before .before .before .before .before .before .before .before .before .before .before .least .ensures .1 .1, c .before .before .before .before .before .before .before .before .before .before .before .before .before .before .before .before .loop-test .taken, c .before .before .before .before .before .before .before .before .before .before .before .before .before .before .before .before .before .before .before .before .before .before .before .before .before .before .before .before .good)
@@ -383,7 +383,7 @@ loop-again-11 : tie.Need-loop-again-11 Inv-loop μ-loop
 loop-again-11 c =
     let l = c .before .before .before .before .before .before .before .before .before .before .before .before .before .before .before .before .before .loop in
     let a = c .before .before .before .before .before .before .before .before .before .before .before .before .before .before .before .before .before .before .before .before .before .before .before .before .before .before .before .before .args in
-    let p = c .before .before .tell-plain9 in
+    let p = c .before .before .tell-bare9 in
     let q = c .before .before .before .before .before .before .before .before .before .before .before .before .before .before .before .record-at in
     let n : Board = record { icu = l .icu; intp = l .intp; timer = l .timer; dma = l .dma; kept = a .self .kept } in
     round (a .self) (a .memory .now) (take (a .size) (a .kept) ++ a .tape .now)
@@ -400,8 +400,8 @@ set-gates-requires c κs = search needs
 rewire-requires-3 : tie.Need-rewire-requires-3 Inv-loop μ-loop
 rewire-requires-3 c κs = search needs
 
-tell-plain-requires-10 : tie.Need-tell-plain-requires-10 Inv-loop μ-loop
-tell-plain-requires-10 c κs = omega (arith, c .before .before .before .before .before .before .before .before .before .before .before .before .before .before .before .loop .inv .2, c .before .before .before .before .before .before .before .before .before .before .before .before .before .before .before .before .before .before .before .before .least .ensures .1 .1, c .before .before .before .before .before .before .before .before .before .before .before .before .before .before .loop-test .taken)
+tell-bare-requires-10 : tie.Need-tell-bare-requires-10 Inv-loop μ-loop
+tell-bare-requires-10 c κs = omega (arith, c .before .before .before .before .before .before .before .before .before .before .before .before .before .before .before .loop .inv .2, c .before .before .before .before .before .before .before .before .before .before .before .before .before .before .before .before .before .before .before .before .least .ensures .1 .1, c .before .before .before .before .before .before .before .before .before .before .before .before .before .before .loop-test .taken)
 
 add-i-12 : tie.Need-add-i-12 Inv-loop μ-loop
 add-i-12 c = omega (arith, c .before .before .before .before .before .before .before .before .before .before .before .before .before .before .before .before .before .before .loop .inv .2, c .before .before .before .before .before .before .before .before .before .before .before .before .before .before .before .before .before .before .before .before .before .before .before .least .ensures .1 .1, c .before .before .before .before .before .before .before .before .before .before .before .before .before .before .before .before .before .loop-test .taken, c .before .before .before .before .before .before .before .before .before .before .before .before .before .before .before .before .before .before .before .before .before .before .before .before .before .before .before .before .before .good)
@@ -413,7 +413,7 @@ loop-again-12 : tie.Need-loop-again-12 Inv-loop μ-loop
 loop-again-12 c =
     let l = c .before .before .before .before .before .before .before .before .before .before .before .before .before .before .before .before .before .before .loop in
     let a = c .before .before .before .before .before .before .before .before .before .before .before .before .before .before .before .before .before .before .before .before .before .before .before .before .before .before .before .before .before .args in
-    let p = c .before .before .tell-plain10 in
+    let p = c .before .before .tell-bare10 in
     let q = c .before .before .before .before .before .before .before .before .before .before .before .before .before .before .before .before .record-at in
     let n : Board = record { icu = l .icu; intp = l .intp; timer = l .timer; dma = l .dma; kept = a .self .kept } in
     round (a .self) (a .memory .now) (take (a .size) (a .kept) ++ a .tape .now)
@@ -427,8 +427,8 @@ enum-known-o-5 c = search needs
 set-requests-requires : tie.Need-set-requests-requires Inv-loop μ-loop
 set-requests-requires c κs = search needs
 
-tell-plain-requires-11 : tie.Need-tell-plain-requires-11 Inv-loop μ-loop
-tell-plain-requires-11 c κs = omega (arith, c .before .before .before .before .before .before .before .before .before .before .before .before .before .loop .inv .2, c .before .before .before .before .before .before .before .before .before .before .before .before .before .before .before .before .before .before .least .ensures .1 .1, c .before .before .before .before .before .before .before .before .before .before .before .before .loop-test .taken)
+tell-bare-requires-11 : tie.Need-tell-bare-requires-11 Inv-loop μ-loop
+tell-bare-requires-11 c κs = omega (arith, c .before .before .before .before .before .before .before .before .before .before .before .before .before .loop .inv .2, c .before .before .before .before .before .before .before .before .before .before .before .before .before .before .before .before .before .before .least .ensures .1 .1, c .before .before .before .before .before .before .before .before .before .before .before .before .loop-test .taken)
 
 add-i-13 : tie.Need-add-i-13 Inv-loop μ-loop
 add-i-13 c = omega (arith, c .before .before .before .before .before .before .before .before .before .before .before .before .before .before .before .before .loop .inv .2, c .before .before .before .before .before .before .before .before .before .before .before .before .before .before .before .before .before .before .before .before .before .least .ensures .1 .1, c .before .before .before .before .before .before .before .before .before .before .before .before .before .before .before .loop-test .taken, c .before .before .before .before .before .before .before .before .before .before .before .before .before .before .before .before .before .before .before .before .before .before .before .before .before .before .before .good)
@@ -440,7 +440,7 @@ loop-again-13 : tie.Need-loop-again-13 Inv-loop μ-loop
 loop-again-13 c =
     let l = c .before .before .before .before .before .before .before .before .before .before .before .before .before .before .before .before .loop in
     let a = c .before .before .before .before .before .before .before .before .before .before .before .before .before .before .before .before .before .before .before .before .before .before .before .before .before .before .before .args in
-    let p = c .before .before .tell-plain11 in
+    let p = c .before .before .tell-bare11 in
     let q = c .before .before .before .before .before .before .before .before .before .before .before .before .before .before .record-at in
     let n : Board = record { icu = l .icu; intp = l .intp; timer = l .timer; dma = l .dma; kept = a .self .kept } in
     round (a .self) (a .memory .now) (take (a .size) (a .kept) ++ a .tape .now)
@@ -610,4 +610,4 @@ returns c =
     in (rw (← e) (l .inv .3), (rw (← e) (l .inv .4), rw (← e) (l .inv .5)))
 
 pub run-spec : {M : Type 1} → statement M
-run-spec = tie.close (tie.spec Inv-loop μ-loop count-bytes-requires least-requires levels-requires loop-holds record-at-requires array-read-op decode-requires enum-known-d enum-told tell-plain-requires add-i loop-less loop-again is-blocked-requires tell-plain-requires-2 add-i-2 loop-less-2 loop-again-2 enum-told-2 reset-requires reset-requires-2 reset-requires-3 tell-plain-requires-3 add-i-3 loop-less-3 loop-again-3 enum-known-o write-icu-requires levels-at-requires tell-requires add-i-4 loop-less-4 loop-again-4 write-requires rewire-requires tell-plain-requires-4 add-i-5 loop-less-5 loop-again-5 tell-plain-requires-5 add-i-6 loop-less-6 loop-again-6 write-requires-2 tell-plain-requires-6 add-i-7 loop-less-7 loop-again-7 enum-known-o-2 lines-at-requires read-icu-requires tell-requires-2 add-i-8 loop-less-8 loop-again-8 cast-n mul-c element-copy-out-c look-requires mul-c-2 element-set-from-c tell-plain-requires-7 add-i-9 loop-less-9 loop-again-9 look-requires-2 tell-plain-requires-8 add-i-10 loop-less-10 loop-again-10 enum-known-o-3 rewire-requires-2 tell-plain-requires-9 add-i-11 loop-less-11 loop-again-11 enum-known-o-4 set-gates-requires rewire-requires-3 tell-plain-requires-10 add-i-12 loop-less-12 loop-again-12 enum-known-o-5 set-requests-requires tell-plain-requires-11 add-i-13 loop-less-13 loop-again-13 enum-told-3 lines-at-requires-2 acknowledge-requires levels-at-requires-2 tell-requires-3 add-i-14 loop-less-14 loop-again-14 enum-known-o-6 run-pulses-requires levels-at-requires-3 rises-payload-requires tell-requires-4 add-i-15 loop-less-15 loop-again-15 enum-known-o-7 cast-at mul-c-3 element-copy-out-c-2 is-plain-requires transfer-requires advance-requires mul-t154 element-set-from-dma moved-payload-requires tell-requires-5 add-i-16 loop-less-16 loop-again-16 cycle-requires byte-moved-requires payload-requires tell-requires-6 add-i-17 loop-less-17 loop-again-17 same-length same-length-2 returns)
+run-spec = tie.close (tie.spec Inv-loop μ-loop count-bytes-requires least-requires levels-requires loop-holds record-at-requires array-read-op decode-requires enum-known-d enum-told tell-bare-requires add-i loop-less loop-again is-blocked-requires tell-bare-requires-2 add-i-2 loop-less-2 loop-again-2 enum-told-2 reset-requires reset-requires-2 reset-requires-3 tell-bare-requires-3 add-i-3 loop-less-3 loop-again-3 enum-known-o write-icu-requires levels-at-requires tell-requires add-i-4 loop-less-4 loop-again-4 write-requires rewire-requires tell-bare-requires-4 add-i-5 loop-less-5 loop-again-5 tell-bare-requires-5 add-i-6 loop-less-6 loop-again-6 write-requires-2 tell-bare-requires-6 add-i-7 loop-less-7 loop-again-7 enum-known-o-2 lines-at-requires read-icu-requires tell-requires-2 add-i-8 loop-less-8 loop-again-8 cast-n mul-c element-copy-out-c look-requires mul-c-2 element-set-from-c tell-bare-requires-7 add-i-9 loop-less-9 loop-again-9 look-requires-2 tell-bare-requires-8 add-i-10 loop-less-10 loop-again-10 enum-known-o-3 rewire-requires-2 tell-bare-requires-9 add-i-11 loop-less-11 loop-again-11 enum-known-o-4 set-gates-requires rewire-requires-3 tell-bare-requires-10 add-i-12 loop-less-12 loop-again-12 enum-known-o-5 set-requests-requires tell-bare-requires-11 add-i-13 loop-less-13 loop-again-13 enum-told-3 lines-at-requires-2 acknowledge-requires levels-at-requires-2 tell-requires-3 add-i-14 loop-less-14 loop-again-14 enum-known-o-6 run-pulses-requires levels-at-requires-3 rises-payload-requires tell-requires-4 add-i-15 loop-less-15 loop-again-15 enum-known-o-7 cast-at mul-c-3 element-copy-out-c-2 is-plain-requires transfer-requires advance-requires mul-t154 element-set-from-dma moved-payload-requires tell-requires-5 add-i-16 loop-less-16 loop-again-16 cycle-requires byte-moved-requires payload-requires tell-requires-6 add-i-17 loop-less-17 loop-again-17 same-length same-length-2 returns)
