@@ -49,7 +49,7 @@ class Way:
         return self.facts[name]
 
     def last(self, stem):
-        """The newest fact of a name that the pattern fits, whatever its number."""
+        """The newest fact of that name, whatever its number."""
         for name in self.facts:
             if re.fullmatch(stem + r"\d*", name):
                 return self.facts[name]
@@ -115,8 +115,13 @@ def refused_timer(w):
 
 
 def wrote_dma(w):
-    a, b = tests(w)
-    return f"{free(w, 'wrote-dma')} _ _ {is_op(w)} ({a} .left) ({b} .left) _ {ensures(w, 'write')}"
+    a, b, c = tests(w)
+    return f"{free(w, 'wrote-dma')} _ _ {is_op(w)} ({a} .left) ({b} .left) _ {ensures(w, 'write')} ({c} .taken)"
+
+
+def refused_dma(w):
+    a, b, c = tests(w)
+    return f"{free(w, 'refused-dma')} _ _ {is_op(w)} ({a} .left) ({b} .left) _ {ensures(w, 'write')} ({c} .left)"
 
 
 def read_icu(w):
@@ -171,6 +176,7 @@ ARMS = [
     (wrote_timer, None),
     (refused_timer, None),
     (wrote_dma, None),
+    (refused_dma, None),
     (read_icu, None),
     (read_timer, None),
     (read_dma, None),
@@ -192,7 +198,7 @@ def again(w, law, lent):
     return f"""
     let l = {w('loop')} in
     let a = {w('args')} in
-    let p = {w.last('tell(?:-bare)?')} in
+    let p = {w.last('tell')} in
     let q = {w('record-at')} in
     let n : Board = record {{ icu = l .icu; intp = l .intp; timer = l .timer; dma = l .dma; kept = a .self .kept }} in
     round (a .self) (a .memory .now) (take (a .size) (a .kept) ++ a .tape .now)
@@ -213,7 +219,7 @@ def answer(name, w, arm):
         return f"(search needs, refl, refl, refl, refl, refl, {w('levels')} .ensures)"
     if stem == "record-at-requires":
         return f"omega (arith, {w('count-bytes')} .ensures .1, {w('least')} .ensures .1 .0, {w('loop-test')} .taken)"
-    if stem in ("tell-requires", "tell-bare-requires"):
+    if stem == "tell-requires":
         return f"omega (arith, {room})"
     if stem == "add-i":
         return f"omega (arith, {room}, {w('good')})"
@@ -256,7 +262,7 @@ use Rattle.board.proofs.Board.run.Reads as reads
 use Rattle.board.proofs.Board.run.Lts as lts
 """
 
-LAWS = "malformed, held-up, reset, wrote-icu, wrote-timer, refused-timer, wrote-dma, read-icu, read-timer, read-dma, intp, gates, requests, acknowledge, advance, plain-unit, cycle-by-call"
+LAWS = "malformed, held-up, reset, wrote-icu, wrote-timer, refused-timer, wrote-dma, refused-dma, read-icu, read-timer, read-dma, intp, gates, requests, acknowledge, advance, plain-unit, cycle-by-call"
 
 
 # ---- what rt makes of the function

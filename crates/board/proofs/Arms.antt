@@ -37,7 +37,6 @@ use Rattle.dma.specs.Report.{Told, told, moved}
 use Rattle.dma.specs.Cycle.{plainOf}
 use Rattle.dma.proofs.Plain.{plain}
 use Rattle.dma.proofs.Looks as DmaLooks
-use Rattle.dma.proofs.Writes as DmaWrites
 use Rattle.dma.specs.Cycle as DmaCycle
 use Rattle.board.specs.declared.Board.{Board}
 use Rattle.board.specs.declared.Stepped.{Stepped}
@@ -64,7 +63,7 @@ read-leaves c k x = by (IcuWords.ready c) k (c .showsisr)
     by false q s = refl
 
 module _ (b : Board) where
-  -- what a chip answers is told, or refused by number with nothing shown and nothing changed
+  -- what a chip shows is told, or refused by number with nothing shown and nothing changed
   shown-as : (s : ℕ) (b′ : Board) (x : ℕ) (q : Bool) → eqb s 0 ≡ q
       → (eqb s 0 ≡ false → (b′ ≡ b) × (x ≡ 0))
       → (if q then telling b′ x else refused s b) ≡ record { status = s; board = b′; byte = x; payload = twelve [] }
@@ -144,6 +143,10 @@ module _ (b : Board) (r m : List ℕ) (l : ℕ) (el : l ≡ levelsOf b) where
         unfolding writeOf
         wrote-icu q = turned-icu (icuWritten b (a0 p) x) (wrote ∙ rw (eq-eqb _ _ q)) wrote-none
 
+        -- refused, by either of the other chips: nothing changes
+        pub wrote-nothing : (s : ℕ) → writeOf b p x ≡ refused s b → Turned b r m b m l (plainly s l)
+        wrote-nothing s e = carried (refused s b) m l (wrote ∙ e) wrote-none el
+
         module _ (q₀ : p / 16 ≡ 0 → ⊥) (q₁ : p / 16 ≡ 1) (w : TimerWritten.Written) (ew : w ≡ writesOf (b .timer) p x) where
           to-timer : writeOf b p x ≡ timerWritten b p x
           unfolding writeOf
@@ -158,24 +161,21 @@ module _ (b : Board) (r m : List ℕ) (l : ℕ) (el : l ≡ levelsOf b) where
 
           pub refused-timer : (w .status ≡ 0 → ⊥) → Turned b r m b m l (plainly (w .status) l)
           unfolding timerWritten
-          refused-timer z = carried (refused (w .status) b) m l (wrote ∙ to-timer ∙ rw (← ew, ne-eqb _ _ z)) wrote-none el
+          refused-timer z = wrote-nothing (w .status) (to-timer ∙ rw (← ew, ne-eqb _ _ z))
 
         module _ (q₀ : p / 16 ≡ 0 → ⊥) (q₁ : p / 16 ≡ 1 → ⊥) (w : DmaWritten.Written) (ew : w ≡ DmaRegisters.writeOf (b .dma) p x) where
           to-dma : writeOf b p x ≡ dmaWritten b p x
           unfolding writeOf
           to-dma = rw (ne-eqb _ _ q₀, ne-eqb _ _ q₁)
 
-          -- taken or refused: refused, it gives the chip as it was
-          pub wrote-dma : Turned b r m (dma-is (w .dma) b) m l (plainly (w .status) l)
+          pub wrote-dma : w .status ≡ 0 → Turned b r m (dma-is (w .dma) b) m l (plainly 0 l)
           unfolding dmaWritten levelsOf
-          wrote-dma =
-              let left : DmaWrites.Leaves (b .dma) w = rw ew (DmaWrites.refused-leaves (b .dma) p x) in
-              carried (record { status = w .status; board = dma-is (w .dma) b; byte = 0; payload = twelve [] }) m l
-              (wrote ∙ to-dma
-              ∙ rw (← ew)
-              (shown-as b (w .status) (dma-is (w .dma) b) 0 (eqb (w .status) 0) refl (λ z. (ap (λ (k : Dma). dma-is k b) (left z), refl))))
-              wrote-none
-              el
+          wrote-dma z =
+              carried (done (dma-is (w .dma) b)) m l (wrote ∙ to-dma ∙ rw (← ew, eq-eqb _ _ z)) wrote-none el
+
+          pub refused-dma : (w .status ≡ 0 → ⊥) → Turned b r m b m l (plainly (w .status) l)
+          unfolding dmaWritten
+          refused-dma z = wrote-nothing (w .status) (to-dma ∙ rw (← ew, ne-eqb _ _ z))
 
       module _ (p : ℕ) (v : o ≡ Read p) where
         looked : executeOf b o m ≡ readOf b p

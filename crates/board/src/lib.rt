@@ -444,14 +444,6 @@ fn tell(to: &mut [u8], i: usize, status: u8, op: u8, byte: u8, levels: u8, paylo
     put(to, 16 * i, a);
 }
 
-// The same with an empty payload. It is a function of its own because the loop's proof grows with what the loop has to hold.
-fn tell_bare(to: &mut [u8], i: usize, status: u8, op: u8, byte: u8, levels: u8)
-    requires { ⌜ 16 * i + 16 ≤ length (now to) ⌝ }
-    ensures { λ _. ⌜ now (to .exit) ≡ paste (now (to .entry)) (16 * i) (answerOf status op byte levels (twelve [])) 16 ⌝ }
-{
-    tell(to, i, status, op, byte, levels, [0u8; 12]);
-}
-
 impl Board {
     // Every chip at its reset, every line low but the gates, no bytes kept.
     pub fn reset() -> Board
@@ -520,12 +512,12 @@ impl Board {
             let d = tape::decode(r);
             // not a record at all
             let Decoded::Asked(o) = d else {
-                tell_bare(answers, i, 2, op, 0, levels);
+                tell(answers, i, 2, op, 0, levels, [0u8; 12]);
                 continue;
             };
             // the bus is with a DMA channel
             if is_blocked(dma.serving, o) {
-                tell_bare(answers, i, 1, op, 0, levels);
+                tell(answers, i, 1, op, 0, levels, [0u8; 12]);
                 continue;
             }
             match o {
@@ -536,7 +528,7 @@ impl Board {
                     timer = Timer::reset();
                     dma = Dma::reset();
                     levels = 0;
-                    tell_bare(answers, i, 0, op, 0, levels);
+                    tell(answers, i, 0, op, 0, levels, [0u8; 12]);
                     continue;
                 }
                 // the chip that the port's high digit names: 0 interrupt chip, 1 timer, 2 DMA chip
@@ -559,16 +551,19 @@ impl Board {
                             icu = wired.icu;
                             timer = after;
                             levels = wired.levels;
-                            tell_bare(answers, i, 0, op, 0, levels);
+                            tell(answers, i, 0, op, 0, levels, [0u8; 12]);
                             continue;
                         }
-                        tell_bare(answers, i, w.status, op, 0, levels);
+                        tell(answers, i, w.status, op, 0, levels, [0u8; 12]);
                         continue;
                     }
-                    // a refused write gives the chip as it was
                     let w = dma.write(port, x);
-                    dma = w.dma;
-                    tell_bare(answers, i, w.status, op, 0, levels);
+                    if w.status == 0 {
+                        dma = w.dma;
+                        tell(answers, i, 0, op, 0, levels, [0u8; 12]);
+                        continue;
+                    }
+                    tell(answers, i, w.status, op, 0, levels, [0u8; 12]);
                     continue;
                 }
                 // likewise; no level changes
@@ -588,12 +583,12 @@ impl Board {
                         c.latched = s.latched;
                         c.second = s.second;
                         timer.counters[n] = c;
-                        tell_bare(answers, i, s.status, op, s.byte, levels);
+                        tell(answers, i, s.status, op, s.byte, levels, [0u8; 12]);
                         continue;
                     }
                     let s = dma.look(port);
                     dma.ends = s.ends;
-                    tell_bare(answers, i, s.status, op, s.byte, levels);
+                    tell(answers, i, s.status, op, s.byte, levels, [0u8; 12]);
                     continue;
                 }
                 // INTP1 to INTP7; INTP0 is OUT0
@@ -602,7 +597,7 @@ impl Board {
                     icu = wired.icu;
                     intp = x;
                     levels = wired.levels;
-                    tell_bare(answers, i, 0, op, 0, levels);
+                    tell(answers, i, 0, op, 0, levels, [0u8; 12]);
                     continue;
                 }
                 // a gate's fall may set OUT0 high
@@ -612,12 +607,12 @@ impl Board {
                     icu = wired.icu;
                     timer = after;
                     levels = wired.levels;
-                    tell_bare(answers, i, 0, op, 0, levels);
+                    tell(answers, i, 0, op, 0, levels, [0u8; 12]);
                     continue;
                 }
                 Operation::Requests(x) => {
                     dma = dma.set_requests(x);
-                    tell_bare(answers, i, 0, op, 0, levels);
+                    tell(answers, i, 0, op, 0, levels, [0u8; 12]);
                     continue;
                 }
                 // the interrupt chip gives the vector or the CALL

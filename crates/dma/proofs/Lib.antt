@@ -3,4 +3,3 @@ pub mod Looks
 pub mod Numbers
 pub mod Plain
 pub mod Ranks
-pub mod Writes

@@ -163,8 +163,8 @@ cycleBy d e b m serving releases disabled unready =
 unfoldable pub cycleOf : Dma → Bool → ℕ → List ℕ → Out
 cycleOf d e b m = cycleBy d e b m (d .serving) (releases d) (d .disabled) (eqb (winner d) 4)
 
--- Whether a cycle moves a unit of channel n, which is c, and no more: n is one of the four and served, it does not release, and service does not stop
--- with the unit. Of the chip such a cycle changes that channel's current address and count alone.
+-- Whether a cycle moves a unit of channel n, which is c, and no more: the channel is served, it does not release, and service does not stop with
+-- the unit. Of the chip such a cycle changes that channel's current address and count alone.
 unfoldable pub plainOf : Channel → Bool → ℕ → ℕ → Bool → Bool
 plainOf c serving n requests e =
     serving and not (leb 4 n) and not (stopsOf c (lastOf c e)) and (not (demand c) or bitOf requests n)

@@ -278,8 +278,8 @@ impl Channel {
     }
 }
 
-// Whether a cycle moves a unit of channel n, which is c, and nothing more comes of it. Most units are like that, and such a one changes
-// nothing of the chip but that channel's address and count.
+// Whether a cycle moves a unit of channel n, which is c, and nothing more comes of it. Most units are like that, and such a one changes no other
+// field of the chip.
 pub fn is_plain(c: Channel, serving: bool, n: u8, requests: u8, end: bool) -> bool
     ensures { λ r. ⌜ r ≡ plainOf c serving n requests end ⌝ }
 {

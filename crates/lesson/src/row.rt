@@ -1,4 +1,4 @@
-// What a row takes from the board: the facts that choose its sentences. The board is as it was before the record.
+// What the board has to do with a row: the facts of it that choose the sentences. It is the board before the record.
 use board::Board;
 use words::answered;
 use words::asked;

@@ -1,4 +1,4 @@
-// The words of the program `lesson`: its sentences and which of them says what, the notation, and how rows and the memory are laid out.
+// The words of the program `lesson`: its sentences and which of them says what, the notation, and how texts are laid out.
 pub mod answered;
 pub mod asked;
 pub mod memory;

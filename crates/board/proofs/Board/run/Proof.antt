@@ -12,7 +12,7 @@ use Rattle.board.specs.declared.Board.{Board}
 use Rattle.board.specs.Wiring.{levelsOf}
 use Rattle.board.specs.Records.{after, fitting}
 use Rattle.board.proofs.Runs.{round}
-use Rattle.board.proofs.Arms.{malformed, held-up, reset, wrote-icu, wrote-timer, refused-timer, wrote-dma, read-icu, read-timer, read-dma, intp, gates, requests, acknowledge, advance, plain-unit, cycle-by-call}
+use Rattle.board.proofs.Arms.{malformed, held-up, reset, wrote-icu, wrote-timer, refused-timer, wrote-dma, refused-dma, read-icu, read-timer, read-dma, intp, gates, requests, acknowledge, advance, plain-unit, cycle-by-call}
 use Rattle.board.proofs.Board.run.Statement.{statement}
 use Rattle.board.proofs.Board.run.Tie as tie
 use Rattle.board.proofs.Board.run.Reads as reads
@@ -32,7 +32,6 @@ use Rattle.board.proofs.rewire.Reads as rewire-reads
 use Rattle.board.proofs.rises_payload.Reads as rises-payload-reads
 use Rattle.board.proofs.run_pulses.Reads as run-pulses-reads
 use Rattle.board.proofs.tell.Reads as tell-reads
-use Rattle.board.proofs.tell_bare.Reads as tell-bare-reads
 use Rattle.board.proofs.write_icu.Reads as write-icu-reads
 use Rattle.dma.proofs.Channel.advance.Reads as channel-advance-reads
 use Rattle.dma.proofs.Channel.transfer.Reads as channel-transfer-reads
@@ -91,8 +90,8 @@ enum-known-d c = search needs
 enum-told : tie.Need-enum-told Inv-loop μ-loop
 enum-told c = search needs
 
-tell-bare-requires : tie.Need-tell-bare-requires Inv-loop μ-loop
-tell-bare-requires c κs = omega (arith, c .before .before .before .before .before .before .loop .inv .2, c .before .before .before .before .before .before .before .before .before .before .before .least .ensures .1 .1, c .before .before .before .before .before .loop-test .taken)
+tell-requires : tie.Need-tell-requires Inv-loop μ-loop
+tell-requires c κs = omega (arith, c .before .before .before .before .before .before .loop .inv .2, c .before .before .before .before .before .before .before .before .before .before .before .least .ensures .1 .1, c .before .before .before .before .before .loop-test .taken)
 
 add-i : tie.Need-add-i Inv-loop μ-loop
 add-i c = omega (arith, c .before .before .before .before .before .before .before .before .before .loop .inv .2, c .before .before .before .before .before .before .before .before .before .before .before .before .before .before .least .ensures .1 .1, c .before .before .before .before .before .before .before .before .loop-test .taken, c .before .before .before .before .before .before .before .before .before .before .before .before .before .before .before .before .before .before .before .before .good)
@@ -104,7 +103,7 @@ loop-again : tie.Need-loop-again Inv-loop μ-loop
 loop-again c =
     let l = c .before .before .before .before .before .before .before .before .before .loop in
     let a = c .before .before .before .before .before .before .before .before .before .before .before .before .before .before .before .before .before .before .before .before .args in
-    let p = c .before .before .tell-bare in
+    let p = c .before .before .tell in
     let q = c .before .before .before .before .before .before .before .record-at in
     let n : Board = record { icu = l .icu; intp = l .intp; timer = l .timer; dma = l .dma; kept = a .self .kept } in
     round (a .self) (a .memory .now) (take (a .size) (a .kept) ++ a .tape .now)
@@ -115,8 +114,8 @@ loop-again c =
 is-blocked-requires : tie.Need-is-blocked-requires Inv-loop μ-loop
 is-blocked-requires c κs = search needs
 
-tell-bare-requires-2 : tie.Need-tell-bare-requires-2 Inv-loop μ-loop
-tell-bare-requires-2 c κs = omega (arith, c .before .before .before .before .before .before .before .before .before .loop .inv .2, c .before .before .before .before .before .before .before .before .before .before .before .before .before .before .least .ensures .1 .1, c .before .before .before .before .before .before .before .before .loop-test .taken)
+tell-requires-2 : tie.Need-tell-requires-2 Inv-loop μ-loop
+tell-requires-2 c κs = omega (arith, c .before .before .before .before .before .before .before .before .before .loop .inv .2, c .before .before .before .before .before .before .before .before .before .before .before .before .before .before .least .ensures .1 .1, c .before .before .before .before .before .before .before .before .loop-test .taken)
 
 add-i-2 : tie.Need-add-i-2 Inv-loop μ-loop
 add-i-2 c = omega (arith, c .before .before .before .before .before .before .before .before .before .before .before .before .loop .inv .2, c .before .before .before .before .before .before .before .before .before .before .before .before .before .before .before .before .before .least .ensures .1 .1, c .before .before .before .before .before .before .before .before .before .before .before .loop-test .taken, c .before .before .before .before .before .before .before .before .before .before .before .before .before .before .before .before .before .before .before .before .before .before .before .good)
@@ -128,7 +127,7 @@ loop-again-2 : tie.Need-loop-again-2 Inv-loop μ-loop
 loop-again-2 c =
     let l = c .before .before .before .before .before .before .before .before .before .before .before .before .loop in
     let a = c .before .before .before .before .before .before .before .before .before .before .before .before .before .before .before .before .before .before .before .before .before .before .before .args in
-    let p = c .before .before .tell-bare2 in
+    let p = c .before .before .tell2 in
     let q = c .before .before .before .before .before .before .before .before .before .before .record-at in
     let n : Board = record { icu = l .icu; intp = l .intp; timer = l .timer; dma = l .dma; kept = a .self .kept } in
     round (a .self) (a .memory .now) (take (a .size) (a .kept) ++ a .tape .now)
@@ -148,8 +147,8 @@ reset-requires-2 c κs = search needs
 reset-requires-3 : tie.Need-reset-requires-3 Inv-loop μ-loop
 reset-requires-3 c κs = search needs
 
-tell-bare-requires-3 : tie.Need-tell-bare-requires-3 Inv-loop μ-loop
-tell-bare-requires-3 c κs = omega (arith, c .before .before .before .before .before .before .before .before .before .before .before .before .before .before .loop .inv .2, c .before .before .before .before .before .before .before .before .before .before .before .before .before .before .before .before .before .before .before .least .ensures .1 .1, c .before .before .before .before .before .before .before .before .before .before .before .before .before .loop-test .taken)
+tell-requires-3 : tie.Need-tell-requires-3 Inv-loop μ-loop
+tell-requires-3 c κs = omega (arith, c .before .before .before .before .before .before .before .before .before .before .before .before .before .before .loop .inv .2, c .before .before .before .before .before .before .before .before .before .before .before .before .before .before .before .before .before .before .before .least .ensures .1 .1, c .before .before .before .before .before .before .before .before .before .before .before .before .before .loop-test .taken)
 
 add-i-3 : tie.Need-add-i-3 Inv-loop μ-loop
 add-i-3 c = omega (arith, c .before .before .before .before .before .before .before .before .before .before .before .before .before .before .before .before .before .loop .inv .2, c .before .before .before .before .before .before .before .before .before .before .before .before .before .before .before .before .before .before .before .before .before .before .least .ensures .1 .1, c .before .before .before .before .before .before .before .before .before .before .before .before .before .before .before .before .loop-test .taken, c .before .before .before .before .before .before .before .before .before .before .before .before .before .before .before .before .before .before .before .before .before .before .before .before .before .before .before .before .good)
@@ -161,7 +160,7 @@ loop-again-3 : tie.Need-loop-again-3 Inv-loop μ-loop
 loop-again-3 c =
     let l = c .before .before .before .before .before .before .before .before .before .before .before .before .before .before .before .before .before .loop in
     let a = c .before .before .before .before .before .before .before .before .before .before .before .before .before .before .before .before .before .before .before .before .before .before .before .before .before .before .before .before .args in
-    let p = c .before .before .tell-bare3 in
+    let p = c .before .before .tell3 in
     let q = c .before .before .before .before .before .before .before .before .before .before .before .before .before .before .before .record-at in
     let n : Board = record { icu = l .icu; intp = l .intp; timer = l .timer; dma = l .dma; kept = a .self .kept } in
     round (a .self) (a .memory .now) (take (a .size) (a .kept) ++ a .tape .now)
@@ -178,8 +177,8 @@ write-icu-requires c κs = search needs
 levels-at-requires : tie.Need-levels-at-requires Inv-loop μ-loop
 levels-at-requires c κs = search needs
 
-tell-requires : tie.Need-tell-requires Inv-loop μ-loop
-tell-requires c κs = omega (arith, c .before .before .before .before .before .before .before .before .before .before .before .before .before .before .before .before .before .loop .inv .2, c .before .before .before .before .before .before .before .before .before .before .before .before .before .before .before .before .before .before .before .before .before .before .least .ensures .1 .1, c .before .before .before .before .before .before .before .before .before .before .before .before .before .before .before .before .loop-test .taken)
+tell-requires-4 : tie.Need-tell-requires-4 Inv-loop μ-loop
+tell-requires-4 c κs = omega (arith, c .before .before .before .before .before .before .before .before .before .before .before .before .before .before .before .before .before .loop .inv .2, c .before .before .before .before .before .before .before .before .before .before .before .before .before .before .before .before .before .before .before .before .before .before .least .ensures .1 .1, c .before .before .before .before .before .before .before .before .before .before .before .before .before .before .before .before .loop-test .taken)
 
 add-i-4 : tie.Need-add-i-4 Inv-loop μ-loop
 add-i-4 c = omega (arith, c .before .before .before .before .before .before .before .before .before .before .before .before .before .before .before .before .before .before .before .before .loop .inv .2, c .before .before .before .before .before .before .before .before .before .before .before .before .before .before .before .before .before .before .before .before .before .before .before .before .before .least .ensures .1 .1, c .before .before .before .before .before .before .before .before .before .before .before .before .before .before .before .before .before .before .before .loop-test .taken, c .before .before .before .before .before .before .before .before .before .before .before .before .before .before .before .before .before .before .before .before .before .before .before .before .before .before .before .before .before .before .before .good)
@@ -191,7 +190,7 @@ loop-again-4 : tie.Need-loop-again-4 Inv-loop μ-loop
 loop-again-4 c =
     let l = c .before .before .before .before .before .before .before .before .before .before .before .before .before .before .before .before .before .before .before .before .loop in
     let a = c .before .before .before .before .before .before .before .before .before .before .before .before .before .before .before .before .before .before .before .before .before .before .before .before .before .before .before .before .before .before .before .args in
-    let p = c .before .before .tell in
+    let p = c .before .before .tell4 in
     let q = c .before .before .before .before .before .before .before .before .before .before .before .before .before .before .before .before .before .before .record-at in
     let n : Board = record { icu = l .icu; intp = l .intp; timer = l .timer; dma = l .dma; kept = a .self .kept } in
     round (a .self) (a .memory .now) (take (a .size) (a .kept) ++ a .tape .now)
@@ -205,8 +204,8 @@ write-requires c κs = search needs
 rewire-requires : tie.Need-rewire-requires Inv-loop μ-loop
 rewire-requires c κs = search needs
 
-tell-bare-requires-4 : tie.Need-tell-bare-requires-4 Inv-loop μ-loop
-tell-bare-requires-4 c κs = omega (arith, c .before .before .before .before .before .before .before .before .before .before .before .before .before .before .before .before .before .before .before .before .loop .inv .2, c .before .before .before .before .before .before .before .before .before .before .before .before .before .before .before .before .before .before .before .before .before .before .before .before .before .least .ensures .1 .1, c .before .before .before .before .before .before .before .before .before .before .before .before .before .before .before .before .before .before .before .loop-test .taken)
+tell-requires-5 : tie.Need-tell-requires-5 Inv-loop μ-loop
+tell-requires-5 c κs = omega (arith, c .before .before .before .before .before .before .before .before .before .before .before .before .before .before .before .before .before .before .before .before .loop .inv .2, c .before .before .before .before .before .before .before .before .before .before .before .before .before .before .before .before .before .before .before .before .before .before .before .before .before .least .ensures .1 .1, c .before .before .before .before .before .before .before .before .before .before .before .before .before .before .before .before .before .before .before .loop-test .taken)
 
 add-i-5 : tie.Need-add-i-5 Inv-loop μ-loop
 add-i-5 c = omega (arith, c .before .before .before .before .before .before .before .before .before .before .before .before .before .before .before .before .before .before .before .before .before .before .before .loop .inv .2, c .before .before .before .before .before .before .before .before .before .before .before .before .before .before .before .before .before .before .before .before .before .before .before .before .before .before .before .before .least .ensures .1 .1, c .before .before .before .before .before .before .before .before .before .before .before .before .before .before .before .before .before .before .before .before .before .before .loop-test .taken, c .before .before .before .before .before .before .before .before .before .before .before .before .before .before .before .before .before .before .before .before .before .before .before .before .before .before .before .before .before .before .before .before .before .before .good)
@@ -218,7 +217,7 @@ loop-again-5 : tie.Need-loop-again-5 Inv-loop μ-loop
 loop-again-5 c =
     let l = c .before .before .before .before .before .before .before .before .before .before .before .before .before .before .before .before .before .before .before .before .before .before .before .loop in
     let a = c .before .before .before .before .before .before .before .before .before .before .before .before .before .before .before .before .before .before .before .before .before .before .before .before .before .before .before .before .before .before .before .before .before .before .args in
-    let p = c .before .before .tell-bare4 in
+    let p = c .before .before .tell5 in
     let q = c .before .before .before .before .before .before .before .before .before .before .before .before .before .before .before .before .before .before .before .before .before .record-at in
     let n : Board = record { icu = l .icu; intp = l .intp; timer = l .timer; dma = l .dma; kept = a .self .kept } in
     round (a .self) (a .memory .now) (take (a .size) (a .kept) ++ a .tape .now)
@@ -226,8 +225,8 @@ loop-again-5 c =
     (l .i) n _ (l .memory) (q .result) (l .memory) (l .answers) (p .last .0) (a .answers .now) _ _
     (l .inv .3) (l .inv .4) (l .inv .5) (q .ensures) (wrote-timer n (q .result) (l .memory) (l .levels) (l .inv .6) _ (sym (c .before .before .before .before .before .before .before .before .before .before .before .before .before .before .before .before .before .before .before .before .decode .ensures) ∙ c .before .before .before .before .before .before .before .before .before .before .before .before .before .before .before .before .before .before .d .given .1) (sym (c .before .before .before .before .before .before .before .before .before .before .before .before .before .before .before .before .is-blocked .ensures) ∙ c .before .before .before .before .before .before .before .before .before .before .before .before .before .before .before .if1 .left) _ _ (c .before .before .before .before .before .before .before .before .before .before .before .before .before .o .given .1) (c .before .before .before .before .before .before .before .before .before .before .before .if2 .left) (c .before .before .before .before .before .before .before .before .before .before .if3 .taken) _ (c .before .before .before .before .before .before .before .before .before .write .ensures) (c .before .before .before .before .before .before .before .if4 .taken) _ (c .before .before .before .before .before .rewire .ensures)) (p .ensures)
 
-tell-bare-requires-5 : tie.Need-tell-bare-requires-5 Inv-loop μ-loop
-tell-bare-requires-5 c κs = omega (arith, c .before .before .before .before .before .before .before .before .before .before .before .before .before .before .before .before .before .loop .inv .2, c .before .before .before .before .before .before .before .before .before .before .before .before .before .before .before .before .before .before .before .before .before .before .least .ensures .1 .1, c .before .before .before .before .before .before .before .before .before .before .before .before .before .before .before .before .loop-test .taken)
+tell-requires-6 : tie.Need-tell-requires-6 Inv-loop μ-loop
+tell-requires-6 c κs = omega (arith, c .before .before .before .before .before .before .before .before .before .before .before .before .before .before .before .before .before .loop .inv .2, c .before .before .before .before .before .before .before .before .before .before .before .before .before .before .before .before .before .before .before .before .before .before .least .ensures .1 .1, c .before .before .before .before .before .before .before .before .before .before .before .before .before .before .before .before .loop-test .taken)
 
 add-i-6 : tie.Need-add-i-6 Inv-loop μ-loop
 add-i-6 c = omega (arith, c .before .before .before .before .before .before .before .before .before .before .before .before .before .before .before .before .before .before .before .before .loop .inv .2, c .before .before .before .before .before .before .before .before .before .before .before .before .before .before .before .before .before .before .before .before .before .before .before .before .before .least .ensures .1 .1, c .before .before .before .before .before .before .before .before .before .before .before .before .before .before .before .before .before .before .before .loop-test .taken, c .before .before .before .before .before .before .before .before .before .before .before .before .before .before .before .before .before .before .before .before .before .before .before .before .before .before .before .before .before .before .before .good)
@@ -239,7 +238,7 @@ loop-again-6 : tie.Need-loop-again-6 Inv-loop μ-loop
 loop-again-6 c =
     let l = c .before .before .before .before .before .before .before .before .before .before .before .before .before .before .before .before .before .before .before .before .loop in
     let a = c .before .before .before .before .before .before .before .before .before .before .before .before .before .before .before .before .before .before .before .before .before .before .before .before .before .before .before .before .before .before .before .args in
-    let p = c .before .before .tell-bare5 in
+    let p = c .before .before .tell6 in
     let q = c .before .before .before .before .before .before .before .before .before .before .before .before .before .before .before .before .before .before .record-at in
     let n : Board = record { icu = l .icu; intp = l .intp; timer = l .timer; dma = l .dma; kept = a .self .kept } in
     round (a .self) (a .memory .now) (take (a .size) (a .kept) ++ a .tape .now)
@@ -250,26 +249,47 @@ loop-again-6 c =
 write-requires-2 : tie.Need-write-requires-2 Inv-loop μ-loop
 write-requires-2 c κs = search needs
 
-tell-bare-requires-6 : tie.Need-tell-bare-requires-6 Inv-loop μ-loop
-tell-bare-requires-6 c κs = omega (arith, c .before .before .before .before .before .before .before .before .before .before .before .before .before .before .before .before .loop .inv .2, c .before .before .before .before .before .before .before .before .before .before .before .before .before .before .before .before .before .before .before .before .before .least .ensures .1 .1, c .before .before .before .before .before .before .before .before .before .before .before .before .before .before .before .loop-test .taken)
+tell-requires-7 : tie.Need-tell-requires-7 Inv-loop μ-loop
+tell-requires-7 c κs = omega (arith, c .before .before .before .before .before .before .before .before .before .before .before .before .before .before .before .before .before .before .loop .inv .2, c .before .before .before .before .before .before .before .before .before .before .before .before .before .before .before .before .before .before .before .before .before .before .before .least .ensures .1 .1, c .before .before .before .before .before .before .before .before .before .before .before .before .before .before .before .before .before .loop-test .taken)
 
 add-i-7 : tie.Need-add-i-7 Inv-loop μ-loop
-add-i-7 c = omega (arith, c .before .before .before .before .before .before .before .before .before .before .before .before .before .before .before .before .before .before .before .loop .inv .2, c .before .before .before .before .before .before .before .before .before .before .before .before .before .before .before .before .before .before .before .before .before .before .before .before .least .ensures .1 .1, c .before .before .before .before .before .before .before .before .before .before .before .before .before .before .before .before .before .before .loop-test .taken, c .before .before .before .before .before .before .before .before .before .before .before .before .before .before .before .before .before .before .before .before .before .before .before .before .before .before .before .before .before .before .good)
+add-i-7 c = omega (arith, c .before .before .before .before .before .before .before .before .before .before .before .before .before .before .before .before .before .before .before .before .before .loop .inv .2, c .before .before .before .before .before .before .before .before .before .before .before .before .before .before .before .before .before .before .before .before .before .before .before .before .before .before .least .ensures .1 .1, c .before .before .before .before .before .before .before .before .before .before .before .before .before .before .before .before .before .before .before .before .loop-test .taken, c .before .before .before .before .before .before .before .before .before .before .before .before .before .before .before .before .before .before .before .before .before .before .before .before .before .before .before .before .before .before .before .before .good)
 
 loop-less-7 : tie.Need-loop-less-7 Inv-loop μ-loop
-loop-less-7 c = omega (arith, c .before .before .before .before .before .before .before .before .before .before .before .before .before .before .before .before .before .before .loop-test .taken)
+loop-less-7 c = omega (arith, c .before .before .before .before .before .before .before .before .before .before .before .before .before .before .before .before .before .before .before .before .loop-test .taken)
 
 loop-again-7 : tie.Need-loop-again-7 Inv-loop μ-loop
 loop-again-7 c =
-    let l = c .before .before .before .before .before .before .before .before .before .before .before .before .before .before .before .before .before .before .before .loop in
-    let a = c .before .before .before .before .before .before .before .before .before .before .before .before .before .before .before .before .before .before .before .before .before .before .before .before .before .before .before .before .before .before .args in
-    let p = c .before .before .tell-bare6 in
-    let q = c .before .before .before .before .before .before .before .before .before .before .before .before .before .before .before .before .before .record-at in
+    let l = c .before .before .before .before .before .before .before .before .before .before .before .before .before .before .before .before .before .before .before .before .before .loop in
+    let a = c .before .before .before .before .before .before .before .before .before .before .before .before .before .before .before .before .before .before .before .before .before .before .before .before .before .before .before .before .before .before .before .before .args in
+    let p = c .before .before .tell7 in
+    let q = c .before .before .before .before .before .before .before .before .before .before .before .before .before .before .before .before .before .before .before .record-at in
     let n : Board = record { icu = l .icu; intp = l .intp; timer = l .timer; dma = l .dma; kept = a .self .kept } in
     round (a .self) (a .memory .now) (take (a .size) (a .kept) ++ a .tape .now)
-    (omega (arith, c .before .before .before .before .before .before .before .before .before .before .before .before .before .before .before .before .before .before .loop-test .taken)) (l .inv .1) (p .kept .0 ∙ l .inv .2)
+    (omega (arith, c .before .before .before .before .before .before .before .before .before .before .before .before .before .before .before .before .before .before .before .before .loop-test .taken)) (l .inv .1) (p .kept .0 ∙ l .inv .2)
     (l .i) n _ (l .memory) (q .result) (l .memory) (l .answers) (p .last .0) (a .answers .now) _ _
-    (l .inv .3) (l .inv .4) (l .inv .5) (q .ensures) (wrote-dma n (q .result) (l .memory) (l .levels) (l .inv .6) _ (sym (c .before .before .before .before .before .before .before .before .before .before .before .before .before .before .before .before .decode .ensures) ∙ c .before .before .before .before .before .before .before .before .before .before .before .before .before .before .d .given .1) (sym (c .before .before .before .before .before .before .before .before .before .before .before .before .is-blocked .ensures) ∙ c .before .before .before .before .before .before .before .before .before .before .before .if1 .left) _ _ (c .before .before .before .before .before .before .before .before .before .o .given .1) (c .before .before .before .before .before .before .before .if2 .left) (c .before .before .before .before .before .before .if3 .left) _ (c .before .before .before .before .before .write2 .ensures)) (p .ensures)
+    (l .inv .3) (l .inv .4) (l .inv .5) (q .ensures) (wrote-dma n (q .result) (l .memory) (l .levels) (l .inv .6) _ (sym (c .before .before .before .before .before .before .before .before .before .before .before .before .before .before .before .before .before .before .decode .ensures) ∙ c .before .before .before .before .before .before .before .before .before .before .before .before .before .before .before .before .d .given .1) (sym (c .before .before .before .before .before .before .before .before .before .before .before .before .before .before .is-blocked .ensures) ∙ c .before .before .before .before .before .before .before .before .before .before .before .before .before .if1 .left) _ _ (c .before .before .before .before .before .before .before .before .before .before .before .o .given .1) (c .before .before .before .before .before .before .before .before .before .if2 .left) (c .before .before .before .before .before .before .before .before .if3 .left) _ (c .before .before .before .before .before .before .before .write2 .ensures) (c .before .before .before .before .before .if5 .taken)) (p .ensures)
+
+tell-requires-8 : tie.Need-tell-requires-8 Inv-loop μ-loop
+tell-requires-8 c κs = omega (arith, c .before .before .before .before .before .before .before .before .before .before .before .before .before .before .before .before .before .loop .inv .2, c .before .before .before .before .before .before .before .before .before .before .before .before .before .before .before .before .before .before .before .before .before .before .least .ensures .1 .1, c .before .before .before .before .before .before .before .before .before .before .before .before .before .before .before .before .loop-test .taken)
+
+add-i-8 : tie.Need-add-i-8 Inv-loop μ-loop
+add-i-8 c = omega (arith, c .before .before .before .before .before .before .before .before .before .before .before .before .before .before .before .before .before .before .before .before .loop .inv .2, c .before .before .before .before .before .before .before .before .before .before .before .before .before .before .before .before .before .before .before .before .before .before .before .before .before .least .ensures .1 .1, c .before .before .before .before .before .before .before .before .before .before .before .before .before .before .before .before .before .before .before .loop-test .taken, c .before .before .before .before .before .before .before .before .before .before .before .before .before .before .before .before .before .before .before .before .before .before .before .before .before .before .before .before .before .before .before .good)
+
+loop-less-8 : tie.Need-loop-less-8 Inv-loop μ-loop
+loop-less-8 c = omega (arith, c .before .before .before .before .before .before .before .before .before .before .before .before .before .before .before .before .before .before .before .loop-test .taken)
+
+loop-again-8 : tie.Need-loop-again-8 Inv-loop μ-loop
+loop-again-8 c =
+    let l = c .before .before .before .before .before .before .before .before .before .before .before .before .before .before .before .before .before .before .before .before .loop in
+    let a = c .before .before .before .before .before .before .before .before .before .before .before .before .before .before .before .before .before .before .before .before .before .before .before .before .before .before .before .before .before .before .before .args in
+    let p = c .before .before .tell8 in
+    let q = c .before .before .before .before .before .before .before .before .before .before .before .before .before .before .before .before .before .before .record-at in
+    let n : Board = record { icu = l .icu; intp = l .intp; timer = l .timer; dma = l .dma; kept = a .self .kept } in
+    round (a .self) (a .memory .now) (take (a .size) (a .kept) ++ a .tape .now)
+    (omega (arith, c .before .before .before .before .before .before .before .before .before .before .before .before .before .before .before .before .before .before .before .loop-test .taken)) (l .inv .1) (p .kept .0 ∙ l .inv .2)
+    (l .i) n _ (l .memory) (q .result) (l .memory) (l .answers) (p .last .0) (a .answers .now) _ _
+    (l .inv .3) (l .inv .4) (l .inv .5) (q .ensures) (refused-dma n (q .result) (l .memory) (l .levels) (l .inv .6) _ (sym (c .before .before .before .before .before .before .before .before .before .before .before .before .before .before .before .before .before .decode .ensures) ∙ c .before .before .before .before .before .before .before .before .before .before .before .before .before .before .before .d .given .1) (sym (c .before .before .before .before .before .before .before .before .before .before .before .before .before .is-blocked .ensures) ∙ c .before .before .before .before .before .before .before .before .before .before .before .before .if1 .left) _ _ (c .before .before .before .before .before .before .before .before .before .before .o .given .1) (c .before .before .before .before .before .before .before .before .if2 .left) (c .before .before .before .before .before .before .before .if3 .left) _ (c .before .before .before .before .before .before .write2 .ensures) (c .before .before .before .before .if5 .left)) (p .ensures)
 
 enum-known-o-2 : tie.Need-enum-known-o-2 Inv-loop μ-loop
 enum-known-o-2 c = search needs
@@ -280,26 +300,26 @@ lines-at-requires c κs = search needs
 read-icu-requires : tie.Need-read-icu-requires Inv-loop μ-loop
 read-icu-requires c κs = search needs
 
-tell-requires-2 : tie.Need-tell-requires-2 Inv-loop μ-loop
-tell-requires-2 c κs = omega (arith, c .before .before .before .before .before .before .before .before .before .before .before .before .before .before .before .before .loop .inv .2, c .before .before .before .before .before .before .before .before .before .before .before .before .before .before .before .before .before .before .before .before .before .least .ensures .1 .1, c .before .before .before .before .before .before .before .before .before .before .before .before .before .before .before .loop-test .taken)
+tell-requires-9 : tie.Need-tell-requires-9 Inv-loop μ-loop
+tell-requires-9 c κs = omega (arith, c .before .before .before .before .before .before .before .before .before .before .before .before .before .before .before .before .loop .inv .2, c .before .before .before .before .before .before .before .before .before .before .before .before .before .before .before .before .before .before .before .before .before .least .ensures .1 .1, c .before .before .before .before .before .before .before .before .before .before .before .before .before .before .before .loop-test .taken)
 
-add-i-8 : tie.Need-add-i-8 Inv-loop μ-loop
-add-i-8 c = omega (arith, c .before .before .before .before .before .before .before .before .before .before .before .before .before .before .before .before .before .before .before .loop .inv .2, c .before .before .before .before .before .before .before .before .before .before .before .before .before .before .before .before .before .before .before .before .before .before .before .before .least .ensures .1 .1, c .before .before .before .before .before .before .before .before .before .before .before .before .before .before .before .before .before .before .loop-test .taken, c .before .before .before .before .before .before .before .before .before .before .before .before .before .before .before .before .before .before .before .before .before .before .before .before .before .before .before .before .before .before .good)
+add-i-9 : tie.Need-add-i-9 Inv-loop μ-loop
+add-i-9 c = omega (arith, c .before .before .before .before .before .before .before .before .before .before .before .before .before .before .before .before .before .before .before .loop .inv .2, c .before .before .before .before .before .before .before .before .before .before .before .before .before .before .before .before .before .before .before .before .before .before .before .before .least .ensures .1 .1, c .before .before .before .before .before .before .before .before .before .before .before .before .before .before .before .before .before .before .loop-test .taken, c .before .before .before .before .before .before .before .before .before .before .before .before .before .before .before .before .before .before .before .before .before .before .before .before .before .before .before .before .before .before .good)
 
-loop-less-8 : tie.Need-loop-less-8 Inv-loop μ-loop
-loop-less-8 c = omega (arith, c .before .before .before .before .before .before .before .before .before .before .before .before .before .before .before .before .before .before .loop-test .taken)
+loop-less-9 : tie.Need-loop-less-9 Inv-loop μ-loop
+loop-less-9 c = omega (arith, c .before .before .before .before .before .before .before .before .before .before .before .before .before .before .before .before .before .before .loop-test .taken)
 
-loop-again-8 : tie.Need-loop-again-8 Inv-loop μ-loop
-loop-again-8 c =
+loop-again-9 : tie.Need-loop-again-9 Inv-loop μ-loop
+loop-again-9 c =
     let l = c .before .before .before .before .before .before .before .before .before .before .before .before .before .before .before .before .before .before .before .loop in
     let a = c .before .before .before .before .before .before .before .before .before .before .before .before .before .before .before .before .before .before .before .before .before .before .before .before .before .before .before .before .before .before .args in
-    let p = c .before .before .tell2 in
+    let p = c .before .before .tell9 in
     let q = c .before .before .before .before .before .before .before .before .before .before .before .before .before .before .before .before .before .record-at in
     let n : Board = record { icu = l .icu; intp = l .intp; timer = l .timer; dma = l .dma; kept = a .self .kept } in
     round (a .self) (a .memory .now) (take (a .size) (a .kept) ++ a .tape .now)
     (omega (arith, c .before .before .before .before .before .before .before .before .before .before .before .before .before .before .before .before .before .before .loop-test .taken)) (l .inv .1) (p .kept .0 ∙ l .inv .2)
     (l .i) n _ (l .memory) (q .result) (l .memory) (l .answers) (p .last .0) (a .answers .now) _ _
-    (l .inv .3) (l .inv .4) (l .inv .5) (q .ensures) (read-icu n (q .result) (l .memory) (l .levels) (l .inv .6) _ (sym (c .before .before .before .before .before .before .before .before .before .before .before .before .before .before .before .before .decode .ensures) ∙ c .before .before .before .before .before .before .before .before .before .before .before .before .before .before .d .given .1) (sym (c .before .before .before .before .before .before .before .before .before .before .before .before .is-blocked .ensures) ∙ c .before .before .before .before .before .before .before .before .before .before .before .if1 .left) _ (c .before .before .before .before .before .before .before .before .before .o2 .given .1) (c .before .before .before .before .before .before .before .if5 .taken) _ (c .before .before .before .before .before .before .lines-at .ensures) _ (c .before .before .before .before .before .read-icu .ensures)) (p .ensures)
+    (l .inv .3) (l .inv .4) (l .inv .5) (q .ensures) (read-icu n (q .result) (l .memory) (l .levels) (l .inv .6) _ (sym (c .before .before .before .before .before .before .before .before .before .before .before .before .before .before .before .before .decode .ensures) ∙ c .before .before .before .before .before .before .before .before .before .before .before .before .before .before .d .given .1) (sym (c .before .before .before .before .before .before .before .before .before .before .before .before .is-blocked .ensures) ∙ c .before .before .before .before .before .before .before .before .before .before .before .if1 .left) _ (c .before .before .before .before .before .before .before .before .before .o2 .given .1) (c .before .before .before .before .before .before .before .if6 .taken) _ (c .before .before .before .before .before .before .lines-at .ensures) _ (c .before .before .before .before .before .read-icu .ensures)) (p .ensures)
 
 cast-n : tie.Need-cast-n Inv-loop μ-loop
 cast-n c = search needs
@@ -319,50 +339,50 @@ mul-c-2 c = search needs
 element-set-from-c : tie.Need-element-set-from-c Inv-loop μ-loop
 element-set-from-c c = search needs
 
-tell-bare-requires-7 : tie.Need-tell-bare-requires-7 Inv-loop μ-loop
-tell-bare-requires-7 c κs = omega (arith, c .before .before .before .before .before .before .before .before .before .before .before .before .before .before .before .before .loop .inv .2, c .before .before .before .before .before .before .before .before .before .before .before .before .before .before .before .before .before .before .before .before .before .least .ensures .1 .1, c .before .before .before .before .before .before .before .before .before .before .before .before .before .before .before .loop-test .taken)
+tell-requires-10 : tie.Need-tell-requires-10 Inv-loop μ-loop
+tell-requires-10 c κs = omega (arith, c .before .before .before .before .before .before .before .before .before .before .before .before .before .before .before .before .loop .inv .2, c .before .before .before .before .before .before .before .before .before .before .before .before .before .before .before .before .before .before .before .before .before .least .ensures .1 .1, c .before .before .before .before .before .before .before .before .before .before .before .before .before .before .before .loop-test .taken)
 
-add-i-9 : tie.Need-add-i-9 Inv-loop μ-loop
-add-i-9 c = omega (arith, c .before .before .before .before .before .before .before .before .before .before .before .before .before .before .before .before .before .before .before .loop .inv .2, c .before .before .before .before .before .before .before .before .before .before .before .before .before .before .before .before .before .before .before .before .before .before .before .before .least .ensures .1 .1, c .before .before .before .before .before .before .before .before .before .before .before .before .before .before .before .before .before .before .loop-test .taken, c .before .before .before .before .before .before .before .before .before .before .before .before .before .before .before .before .before .before .before .before .before .before .before .before .before .before .before .before .before .before .good)
+add-i-10 : tie.Need-add-i-10 Inv-loop μ-loop
+add-i-10 c = omega (arith, c .before .before .before .before .before .before .before .before .before .before .before .before .before .before .before .before .before .before .before .loop .inv .2, c .before .before .before .before .before .before .before .before .before .before .before .before .before .before .before .before .before .before .before .before .before .before .before .before .least .ensures .1 .1, c .before .before .before .before .before .before .before .before .before .before .before .before .before .before .before .before .before .before .loop-test .taken, c .before .before .before .before .before .before .before .before .before .before .before .before .before .before .before .before .before .before .before .before .before .before .before .before .before .before .before .before .before .before .good)
 
-loop-less-9 : tie.Need-loop-less-9 Inv-loop μ-loop
-loop-less-9 c = omega (arith, c .before .before .before .before .before .before .before .before .before .before .before .before .before .before .before .before .before .before .loop-test .taken)
+loop-less-10 : tie.Need-loop-less-10 Inv-loop μ-loop
+loop-less-10 c = omega (arith, c .before .before .before .before .before .before .before .before .before .before .before .before .before .before .before .before .before .before .loop-test .taken)
 
-loop-again-9 : tie.Need-loop-again-9 Inv-loop μ-loop
-loop-again-9 c =
+loop-again-10 : tie.Need-loop-again-10 Inv-loop μ-loop
+loop-again-10 c =
     let l = c .before .before .before .before .before .before .before .before .before .before .before .before .before .before .before .before .before .before .before .loop in
     let a = c .before .before .before .before .before .before .before .before .before .before .before .before .before .before .before .before .before .before .before .before .before .before .before .before .before .before .before .before .before .before .args in
-    let p = c .before .before .tell-bare7 in
+    let p = c .before .before .tell10 in
     let q = c .before .before .before .before .before .before .before .before .before .before .before .before .before .before .before .before .before .record-at in
     let n : Board = record { icu = l .icu; intp = l .intp; timer = l .timer; dma = l .dma; kept = a .self .kept } in
     round (a .self) (a .memory .now) (take (a .size) (a .kept) ++ a .tape .now)
     (omega (arith, c .before .before .before .before .before .before .before .before .before .before .before .before .before .before .before .before .before .before .loop-test .taken)) (l .inv .1) (p .kept .0 ∙ l .inv .2)
     (l .i) n _ (l .memory) (q .result) (l .memory) (l .answers) (p .last .0) (a .answers .now) _ _
-    (l .inv .3) (l .inv .4) (l .inv .5) (q .ensures) (read-timer n (q .result) (l .memory) (l .levels) (l .inv .6) _ (sym (c .before .before .before .before .before .before .before .before .before .before .before .before .before .before .before .before .decode .ensures) ∙ c .before .before .before .before .before .before .before .before .before .before .before .before .before .before .d .given .1) (sym (c .before .before .before .before .before .before .before .before .before .before .before .before .is-blocked .ensures) ∙ c .before .before .before .before .before .before .before .before .before .before .before .if1 .left) _ (c .before .before .before .before .before .before .before .before .before .o2 .given .1) (c .before .before .before .before .before .before .before .if5 .left) (c .before .before .before .before .before .before .if6 .taken) (read-counter (q .result) _ (search needs) (sym (c .before .before .before .before .before .before .before .before .before .before .before .before .before .before .before .before .decode .ensures) ∙ c .before .before .before .before .before .before .before .before .before .before .before .before .before .before .d .given .1 ∙ ap (λ (x : Operation). Asked x) (c .before .before .before .before .before .before .before .before .before .o2 .given .1)) (eq-eqb _ _ (c .before .before .before .before .before .before .if6 .taken))) _ refl _ (c .before .before .before .before .look .ensures)) (p .ensures)
+    (l .inv .3) (l .inv .4) (l .inv .5) (q .ensures) (read-timer n (q .result) (l .memory) (l .levels) (l .inv .6) _ (sym (c .before .before .before .before .before .before .before .before .before .before .before .before .before .before .before .before .decode .ensures) ∙ c .before .before .before .before .before .before .before .before .before .before .before .before .before .before .d .given .1) (sym (c .before .before .before .before .before .before .before .before .before .before .before .before .is-blocked .ensures) ∙ c .before .before .before .before .before .before .before .before .before .before .before .if1 .left) _ (c .before .before .before .before .before .before .before .before .before .o2 .given .1) (c .before .before .before .before .before .before .before .if6 .left) (c .before .before .before .before .before .before .if7 .taken) (read-counter (q .result) _ (search needs) (sym (c .before .before .before .before .before .before .before .before .before .before .before .before .before .before .before .before .decode .ensures) ∙ c .before .before .before .before .before .before .before .before .before .before .before .before .before .before .d .given .1 ∙ ap (λ (x : Operation). Asked x) (c .before .before .before .before .before .before .before .before .before .o2 .given .1)) (eq-eqb _ _ (c .before .before .before .before .before .before .if7 .taken))) _ refl _ (c .before .before .before .before .look .ensures)) (p .ensures)
 
 look-requires-2 : tie.Need-look-requires-2 Inv-loop μ-loop
 look-requires-2 c κs = search needs
 
-tell-bare-requires-8 : tie.Need-tell-bare-requires-8 Inv-loop μ-loop
-tell-bare-requires-8 c κs = omega (arith, c .before .before .before .before .before .before .before .before .before .before .before .before .before .before .before .loop .inv .2, c .before .before .before .before .before .before .before .before .before .before .before .before .before .before .before .before .before .before .before .before .least .ensures .1 .1, c .before .before .before .before .before .before .before .before .before .before .before .before .before .before .loop-test .taken)
+tell-requires-11 : tie.Need-tell-requires-11 Inv-loop μ-loop
+tell-requires-11 c κs = omega (arith, c .before .before .before .before .before .before .before .before .before .before .before .before .before .before .before .loop .inv .2, c .before .before .before .before .before .before .before .before .before .before .before .before .before .before .before .before .before .before .before .before .least .ensures .1 .1, c .before .before .before .before .before .before .before .before .before .before .before .before .before .before .loop-test .taken)
 
-add-i-10 : tie.Need-add-i-10 Inv-loop μ-loop
-add-i-10 c = omega (arith, c .before .before .before .before .before .before .before .before .before .before .before .before .before .before .before .before .before .before .loop .inv .2, c .before .before .before .before .before .before .before .before .before .before .before .before .before .before .before .before .before .before .before .before .before .before .before .least .ensures .1 .1, c .before .before .before .before .before .before .before .before .before .before .before .before .before .before .before .before .before .loop-test .taken, c .before .before .before .before .before .before .before .before .before .before .before .before .before .before .before .before .before .before .before .before .before .before .before .before .before .before .before .before .before .good)
+add-i-11 : tie.Need-add-i-11 Inv-loop μ-loop
+add-i-11 c = omega (arith, c .before .before .before .before .before .before .before .before .before .before .before .before .before .before .before .before .before .before .loop .inv .2, c .before .before .before .before .before .before .before .before .before .before .before .before .before .before .before .before .before .before .before .before .before .before .before .least .ensures .1 .1, c .before .before .before .before .before .before .before .before .before .before .before .before .before .before .before .before .before .loop-test .taken, c .before .before .before .before .before .before .before .before .before .before .before .before .before .before .before .before .before .before .before .before .before .before .before .before .before .before .before .before .before .good)
 
-loop-less-10 : tie.Need-loop-less-10 Inv-loop μ-loop
-loop-less-10 c = omega (arith, c .before .before .before .before .before .before .before .before .before .before .before .before .before .before .before .before .before .loop-test .taken)
+loop-less-11 : tie.Need-loop-less-11 Inv-loop μ-loop
+loop-less-11 c = omega (arith, c .before .before .before .before .before .before .before .before .before .before .before .before .before .before .before .before .before .loop-test .taken)
 
-loop-again-10 : tie.Need-loop-again-10 Inv-loop μ-loop
-loop-again-10 c =
+loop-again-11 : tie.Need-loop-again-11 Inv-loop μ-loop
+loop-again-11 c =
     let l = c .before .before .before .before .before .before .before .before .before .before .before .before .before .before .before .before .before .before .loop in
     let a = c .before .before .before .before .before .before .before .before .before .before .before .before .before .before .before .before .before .before .before .before .before .before .before .before .before .before .before .before .before .args in
-    let p = c .before .before .tell-bare8 in
+    let p = c .before .before .tell11 in
     let q = c .before .before .before .before .before .before .before .before .before .before .before .before .before .before .before .before .record-at in
     let n : Board = record { icu = l .icu; intp = l .intp; timer = l .timer; dma = l .dma; kept = a .self .kept } in
     round (a .self) (a .memory .now) (take (a .size) (a .kept) ++ a .tape .now)
     (omega (arith, c .before .before .before .before .before .before .before .before .before .before .before .before .before .before .before .before .before .loop-test .taken)) (l .inv .1) (p .kept .0 ∙ l .inv .2)
     (l .i) n _ (l .memory) (q .result) (l .memory) (l .answers) (p .last .0) (a .answers .now) _ _
-    (l .inv .3) (l .inv .4) (l .inv .5) (q .ensures) (read-dma n (q .result) (l .memory) (l .levels) (l .inv .6) _ (sym (c .before .before .before .before .before .before .before .before .before .before .before .before .before .before .before .decode .ensures) ∙ c .before .before .before .before .before .before .before .before .before .before .before .before .before .d .given .1) (sym (c .before .before .before .before .before .before .before .before .before .before .before .is-blocked .ensures) ∙ c .before .before .before .before .before .before .before .before .before .before .if1 .left) _ (c .before .before .before .before .before .before .before .before .o2 .given .1) (c .before .before .before .before .before .before .if5 .left) (c .before .before .before .before .before .if6 .left) _ (c .before .before .before .before .look2 .ensures)) (p .ensures)
+    (l .inv .3) (l .inv .4) (l .inv .5) (q .ensures) (read-dma n (q .result) (l .memory) (l .levels) (l .inv .6) _ (sym (c .before .before .before .before .before .before .before .before .before .before .before .before .before .before .before .decode .ensures) ∙ c .before .before .before .before .before .before .before .before .before .before .before .before .before .d .given .1) (sym (c .before .before .before .before .before .before .before .before .before .before .before .is-blocked .ensures) ∙ c .before .before .before .before .before .before .before .before .before .before .if1 .left) _ (c .before .before .before .before .before .before .before .before .o2 .given .1) (c .before .before .before .before .before .before .if6 .left) (c .before .before .before .before .before .if7 .left) _ (c .before .before .before .before .look2 .ensures)) (p .ensures)
 
 enum-known-o-3 : tie.Need-enum-known-o-3 Inv-loop μ-loop
 enum-known-o-3 c = search needs
@@ -370,20 +390,20 @@ enum-known-o-3 c = search needs
 rewire-requires-2 : tie.Need-rewire-requires-2 Inv-loop μ-loop
 rewire-requires-2 c κs = search needs
 
-tell-bare-requires-9 : tie.Need-tell-bare-requires-9 Inv-loop μ-loop
-tell-bare-requires-9 c κs = omega (arith, c .before .before .before .before .before .before .before .before .before .before .before .before .before .before .loop .inv .2, c .before .before .before .before .before .before .before .before .before .before .before .before .before .before .before .before .before .before .before .least .ensures .1 .1, c .before .before .before .before .before .before .before .before .before .before .before .before .before .loop-test .taken)
+tell-requires-12 : tie.Need-tell-requires-12 Inv-loop μ-loop
+tell-requires-12 c κs = omega (arith, c .before .before .before .before .before .before .before .before .before .before .before .before .before .before .loop .inv .2, c .before .before .before .before .before .before .before .before .before .before .before .before .before .before .before .before .before .before .before .least .ensures .1 .1, c .before .before .before .before .before .before .before .before .before .before .before .before .before .loop-test .taken)
 
-add-i-11 : tie.Need-add-i-11 Inv-loop μ-loop
-add-i-11 c = omega (arith, c .before .before .before .before .before .before .before .before .before .before .before .before .before .before .before .before .before .loop .inv .2, c .before .before .before .before .before .before .before .before .before .before .before .before .before .before .before .before .before .before .before .before .before .before .least .ensures .1 .1, c .before .before .before .before .before .before .before .before .before .before .before .before .before .before .before .before .loop-test .taken, c .before .before .before .before .before .before .before .before .before .before .before .before .before .before .before .before .before .before .before .before .before .before .before .before .before .before .before .before .good)
+add-i-12 : tie.Need-add-i-12 Inv-loop μ-loop
+add-i-12 c = omega (arith, c .before .before .before .before .before .before .before .before .before .before .before .before .before .before .before .before .before .loop .inv .2, c .before .before .before .before .before .before .before .before .before .before .before .before .before .before .before .before .before .before .before .before .before .before .least .ensures .1 .1, c .before .before .before .before .before .before .before .before .before .before .before .before .before .before .before .before .loop-test .taken, c .before .before .before .before .before .before .before .before .before .before .before .before .before .before .before .before .before .before .before .before .before .before .before .before .before .before .before .before .good)
 
-loop-less-11 : tie.Need-loop-less-11 Inv-loop μ-loop
-loop-less-11 c = omega (arith, c .before .before .before .before .before .before .before .before .before .before .before .before .before .before .before .before .loop-test .taken)
+loop-less-12 : tie.Need-loop-less-12 Inv-loop μ-loop
+loop-less-12 c = omega (arith, c .before .before .before .before .before .before .before .before .before .before .before .before .before .before .before .before .loop-test .taken)
 
-loop-again-11 : tie.Need-loop-again-11 Inv-loop μ-loop
-loop-again-11 c =
+loop-again-12 : tie.Need-loop-again-12 Inv-loop μ-loop
+loop-again-12 c =
     let l = c .before .before .before .before .before .before .before .before .before .before .before .before .before .before .before .before .before .loop in
     let a = c .before .before .before .before .before .before .before .before .before .before .before .before .before .before .before .before .before .before .before .before .before .before .before .before .before .before .before .before .args in
-    let p = c .before .before .tell-bare9 in
+    let p = c .before .before .tell12 in
     let q = c .before .before .before .before .before .before .before .before .before .before .before .before .before .before .before .record-at in
     let n : Board = record { icu = l .icu; intp = l .intp; timer = l .timer; dma = l .dma; kept = a .self .kept } in
     round (a .self) (a .memory .now) (take (a .size) (a .kept) ++ a .tape .now)
@@ -400,20 +420,20 @@ set-gates-requires c κs = search needs
 rewire-requires-3 : tie.Need-rewire-requires-3 Inv-loop μ-loop
 rewire-requires-3 c κs = search needs
 
-tell-bare-requires-10 : tie.Need-tell-bare-requires-10 Inv-loop μ-loop
-tell-bare-requires-10 c κs = omega (arith, c .before .before .before .before .before .before .before .before .before .before .before .before .before .before .before .loop .inv .2, c .before .before .before .before .before .before .before .before .before .before .before .before .before .before .before .before .before .before .before .before .least .ensures .1 .1, c .before .before .before .before .before .before .before .before .before .before .before .before .before .before .loop-test .taken)
+tell-requires-13 : tie.Need-tell-requires-13 Inv-loop μ-loop
+tell-requires-13 c κs = omega (arith, c .before .before .before .before .before .before .before .before .before .before .before .before .before .before .before .loop .inv .2, c .before .before .before .before .before .before .before .before .before .before .before .before .before .before .before .before .before .before .before .before .least .ensures .1 .1, c .before .before .before .before .before .before .before .before .before .before .before .before .before .before .loop-test .taken)
 
-add-i-12 : tie.Need-add-i-12 Inv-loop μ-loop
-add-i-12 c = omega (arith, c .before .before .before .before .before .before .before .before .before .before .before .before .before .before .before .before .before .before .loop .inv .2, c .before .before .before .before .before .before .before .before .before .before .before .before .before .before .before .before .before .before .before .before .before .before .before .least .ensures .1 .1, c .before .before .before .before .before .before .before .before .before .before .before .before .before .before .before .before .before .loop-test .taken, c .before .before .before .before .before .before .before .before .before .before .before .before .before .before .before .before .before .before .before .before .before .before .before .before .before .before .before .before .before .good)
+add-i-13 : tie.Need-add-i-13 Inv-loop μ-loop
+add-i-13 c = omega (arith, c .before .before .before .before .before .before .before .before .before .before .before .before .before .before .before .before .before .before .loop .inv .2, c .before .before .before .before .before .before .before .before .before .before .before .before .before .before .before .before .before .before .before .before .before .before .before .least .ensures .1 .1, c .before .before .before .before .before .before .before .before .before .before .before .before .before .before .before .before .before .loop-test .taken, c .before .before .before .before .before .before .before .before .before .before .before .before .before .before .before .before .before .before .before .before .before .before .before .before .before .before .before .before .before .good)
 
-loop-less-12 : tie.Need-loop-less-12 Inv-loop μ-loop
-loop-less-12 c = omega (arith, c .before .before .before .before .before .before .before .before .before .before .before .before .before .before .before .before .before .loop-test .taken)
+loop-less-13 : tie.Need-loop-less-13 Inv-loop μ-loop
+loop-less-13 c = omega (arith, c .before .before .before .before .before .before .before .before .before .before .before .before .before .before .before .before .before .loop-test .taken)
 
-loop-again-12 : tie.Need-loop-again-12 Inv-loop μ-loop
-loop-again-12 c =
+loop-again-13 : tie.Need-loop-again-13 Inv-loop μ-loop
+loop-again-13 c =
     let l = c .before .before .before .before .before .before .before .before .before .before .before .before .before .before .before .before .before .before .loop in
     let a = c .before .before .before .before .before .before .before .before .before .before .before .before .before .before .before .before .before .before .before .before .before .before .before .before .before .before .before .before .before .args in
-    let p = c .before .before .tell-bare10 in
+    let p = c .before .before .tell13 in
     let q = c .before .before .before .before .before .before .before .before .before .before .before .before .before .before .before .before .record-at in
     let n : Board = record { icu = l .icu; intp = l .intp; timer = l .timer; dma = l .dma; kept = a .self .kept } in
     round (a .self) (a .memory .now) (take (a .size) (a .kept) ++ a .tape .now)
@@ -427,20 +447,20 @@ enum-known-o-5 c = search needs
 set-requests-requires : tie.Need-set-requests-requires Inv-loop μ-loop
 set-requests-requires c κs = search needs
 
-tell-bare-requires-11 : tie.Need-tell-bare-requires-11 Inv-loop μ-loop
-tell-bare-requires-11 c κs = omega (arith, c .before .before .before .before .before .before .before .before .before .before .before .before .before .loop .inv .2, c .before .before .before .before .before .before .before .before .before .before .before .before .before .before .before .before .before .before .least .ensures .1 .1, c .before .before .before .before .before .before .before .before .before .before .before .before .loop-test .taken)
+tell-requires-14 : tie.Need-tell-requires-14 Inv-loop μ-loop
+tell-requires-14 c κs = omega (arith, c .before .before .before .before .before .before .before .before .before .before .before .before .before .loop .inv .2, c .before .before .before .before .before .before .before .before .before .before .before .before .before .before .before .before .before .before .least .ensures .1 .1, c .before .before .before .before .before .before .before .before .before .before .before .before .loop-test .taken)
 
-add-i-13 : tie.Need-add-i-13 Inv-loop μ-loop
-add-i-13 c = omega (arith, c .before .before .before .before .before .before .before .before .before .before .before .before .before .before .before .before .loop .inv .2, c .before .before .before .before .before .before .before .before .before .before .before .before .before .before .before .before .before .before .before .before .before .least .ensures .1 .1, c .before .before .before .before .before .before .before .before .before .before .before .before .before .before .before .loop-test .taken, c .before .before .before .before .before .before .before .before .before .before .before .before .before .before .before .before .before .before .before .before .before .before .before .before .before .before .before .good)
+add-i-14 : tie.Need-add-i-14 Inv-loop μ-loop
+add-i-14 c = omega (arith, c .before .before .before .before .before .before .before .before .before .before .before .before .before .before .before .before .loop .inv .2, c .before .before .before .before .before .before .before .before .before .before .before .before .before .before .before .before .before .before .before .before .before .least .ensures .1 .1, c .before .before .before .before .before .before .before .before .before .before .before .before .before .before .before .loop-test .taken, c .before .before .before .before .before .before .before .before .before .before .before .before .before .before .before .before .before .before .before .before .before .before .before .before .before .before .before .good)
 
-loop-less-13 : tie.Need-loop-less-13 Inv-loop μ-loop
-loop-less-13 c = omega (arith, c .before .before .before .before .before .before .before .before .before .before .before .before .before .before .before .loop-test .taken)
+loop-less-14 : tie.Need-loop-less-14 Inv-loop μ-loop
+loop-less-14 c = omega (arith, c .before .before .before .before .before .before .before .before .before .before .before .before .before .before .before .loop-test .taken)
 
-loop-again-13 : tie.Need-loop-again-13 Inv-loop μ-loop
-loop-again-13 c =
+loop-again-14 : tie.Need-loop-again-14 Inv-loop μ-loop
+loop-again-14 c =
     let l = c .before .before .before .before .before .before .before .before .before .before .before .before .before .before .before .before .loop in
     let a = c .before .before .before .before .before .before .before .before .before .before .before .before .before .before .before .before .before .before .before .before .before .before .before .before .before .before .before .args in
-    let p = c .before .before .tell-bare11 in
+    let p = c .before .before .tell14 in
     let q = c .before .before .before .before .before .before .before .before .before .before .before .before .before .before .record-at in
     let n : Board = record { icu = l .icu; intp = l .intp; timer = l .timer; dma = l .dma; kept = a .self .kept } in
     round (a .self) (a .memory .now) (take (a .size) (a .kept) ++ a .tape .now)
@@ -460,20 +480,20 @@ acknowledge-requires c κs = search needs
 levels-at-requires-2 : tie.Need-levels-at-requires-2 Inv-loop μ-loop
 levels-at-requires-2 c κs = search needs
 
-tell-requires-3 : tie.Need-tell-requires-3 Inv-loop μ-loop
-tell-requires-3 c κs = omega (arith, c .before .before .before .before .before .before .before .before .before .before .before .before .before .before .before .before .loop .inv .2, c .before .before .before .before .before .before .before .before .before .before .before .before .before .before .before .before .before .before .before .before .before .least .ensures .1 .1, c .before .before .before .before .before .before .before .before .before .before .before .before .before .before .before .loop-test .taken)
+tell-requires-15 : tie.Need-tell-requires-15 Inv-loop μ-loop
+tell-requires-15 c κs = omega (arith, c .before .before .before .before .before .before .before .before .before .before .before .before .before .before .before .before .loop .inv .2, c .before .before .before .before .before .before .before .before .before .before .before .before .before .before .before .before .before .before .before .before .before .least .ensures .1 .1, c .before .before .before .before .before .before .before .before .before .before .before .before .before .before .before .loop-test .taken)
 
-add-i-14 : tie.Need-add-i-14 Inv-loop μ-loop
-add-i-14 c = omega (arith, c .before .before .before .before .before .before .before .before .before .before .before .before .before .before .before .before .before .before .before .loop .inv .2, c .before .before .before .before .before .before .before .before .before .before .before .before .before .before .before .before .before .before .before .before .before .before .before .before .least .ensures .1 .1, c .before .before .before .before .before .before .before .before .before .before .before .before .before .before .before .before .before .before .loop-test .taken, c .before .before .before .before .before .before .before .before .before .before .before .before .before .before .before .before .before .before .before .before .before .before .before .before .before .before .before .before .before .before .good)
+add-i-15 : tie.Need-add-i-15 Inv-loop μ-loop
+add-i-15 c = omega (arith, c .before .before .before .before .before .before .before .before .before .before .before .before .before .before .before .before .before .before .before .loop .inv .2, c .before .before .before .before .before .before .before .before .before .before .before .before .before .before .before .before .before .before .before .before .before .before .before .before .least .ensures .1 .1, c .before .before .before .before .before .before .before .before .before .before .before .before .before .before .before .before .before .before .loop-test .taken, c .before .before .before .before .before .before .before .before .before .before .before .before .before .before .before .before .before .before .before .before .before .before .before .before .before .before .before .before .before .before .good)
 
-loop-less-14 : tie.Need-loop-less-14 Inv-loop μ-loop
-loop-less-14 c = omega (arith, c .before .before .before .before .before .before .before .before .before .before .before .before .before .before .before .before .before .before .loop-test .taken)
+loop-less-15 : tie.Need-loop-less-15 Inv-loop μ-loop
+loop-less-15 c = omega (arith, c .before .before .before .before .before .before .before .before .before .before .before .before .before .before .before .before .before .before .loop-test .taken)
 
-loop-again-14 : tie.Need-loop-again-14 Inv-loop μ-loop
-loop-again-14 c =
+loop-again-15 : tie.Need-loop-again-15 Inv-loop μ-loop
+loop-again-15 c =
     let l = c .before .before .before .before .before .before .before .before .before .before .before .before .before .before .before .before .before .before .before .loop in
     let a = c .before .before .before .before .before .before .before .before .before .before .before .before .before .before .before .before .before .before .before .before .before .before .before .before .before .before .before .before .before .before .args in
-    let p = c .before .before .tell3 in
+    let p = c .before .before .tell15 in
     let q = c .before .before .before .before .before .before .before .before .before .before .before .before .before .before .before .before .before .record-at in
     let n : Board = record { icu = l .icu; intp = l .intp; timer = l .timer; dma = l .dma; kept = a .self .kept } in
     round (a .self) (a .memory .now) (take (a .size) (a .kept) ++ a .tape .now)
@@ -493,20 +513,20 @@ levels-at-requires-3 c κs = search needs
 rises-payload-requires : tie.Need-rises-payload-requires Inv-loop μ-loop
 rises-payload-requires c κs = search needs
 
-tell-requires-4 : tie.Need-tell-requires-4 Inv-loop μ-loop
-tell-requires-4 c κs = omega (arith, c .before .before .before .before .before .before .before .before .before .before .before .before .before .before .before .before .before .before .loop .inv .2, c .before .before .before .before .before .before .before .before .before .before .before .before .before .before .before .before .before .before .before .before .before .before .before .least .ensures .1 .1, c .before .before .before .before .before .before .before .before .before .before .before .before .before .before .before .before .before .loop-test .taken)
+tell-requires-16 : tie.Need-tell-requires-16 Inv-loop μ-loop
+tell-requires-16 c κs = omega (arith, c .before .before .before .before .before .before .before .before .before .before .before .before .before .before .before .before .before .before .loop .inv .2, c .before .before .before .before .before .before .before .before .before .before .before .before .before .before .before .before .before .before .before .before .before .before .before .least .ensures .1 .1, c .before .before .before .before .before .before .before .before .before .before .before .before .before .before .before .before .before .loop-test .taken)
 
-add-i-15 : tie.Need-add-i-15 Inv-loop μ-loop
-add-i-15 c = omega (arith, c .before .before .before .before .before .before .before .before .before .before .before .before .before .before .before .before .before .before .before .before .before .loop .inv .2, c .before .before .before .before .before .before .before .before .before .before .before .before .before .before .before .before .before .before .before .before .before .before .before .before .before .before .least .ensures .1 .1, c .before .before .before .before .before .before .before .before .before .before .before .before .before .before .before .before .before .before .before .before .loop-test .taken, c .before .before .before .before .before .before .before .before .before .before .before .before .before .before .before .before .before .before .before .before .before .before .before .before .before .before .before .before .before .before .before .before .good)
+add-i-16 : tie.Need-add-i-16 Inv-loop μ-loop
+add-i-16 c = omega (arith, c .before .before .before .before .before .before .before .before .before .before .before .before .before .before .before .before .before .before .before .before .before .loop .inv .2, c .before .before .before .before .before .before .before .before .before .before .before .before .before .before .before .before .before .before .before .before .before .before .before .before .before .before .least .ensures .1 .1, c .before .before .before .before .before .before .before .before .before .before .before .before .before .before .before .before .before .before .before .before .loop-test .taken, c .before .before .before .before .before .before .before .before .before .before .before .before .before .before .before .before .before .before .before .before .before .before .before .before .before .before .before .before .before .before .before .before .good)
 
-loop-less-15 : tie.Need-loop-less-15 Inv-loop μ-loop
-loop-less-15 c = omega (arith, c .before .before .before .before .before .before .before .before .before .before .before .before .before .before .before .before .before .before .before .before .loop-test .taken)
+loop-less-16 : tie.Need-loop-less-16 Inv-loop μ-loop
+loop-less-16 c = omega (arith, c .before .before .before .before .before .before .before .before .before .before .before .before .before .before .before .before .before .before .before .before .loop-test .taken)
 
-loop-again-15 : tie.Need-loop-again-15 Inv-loop μ-loop
-loop-again-15 c =
+loop-again-16 : tie.Need-loop-again-16 Inv-loop μ-loop
+loop-again-16 c =
     let l = c .before .before .before .before .before .before .before .before .before .before .before .before .before .before .before .before .before .before .before .before .before .loop in
     let a = c .before .before .before .before .before .before .before .before .before .before .before .before .before .before .before .before .before .before .before .before .before .before .before .before .before .before .before .before .before .before .before .before .args in
-    let p = c .before .before .tell4 in
+    let p = c .before .before .tell16 in
     let q = c .before .before .before .before .before .before .before .before .before .before .before .before .before .before .before .before .before .before .before .record-at in
     let n : Board = record { icu = l .icu; intp = l .intp; timer = l .timer; dma = l .dma; kept = a .self .kept } in
     round (a .self) (a .memory .now) (take (a .size) (a .kept) ++ a .tape .now)
@@ -535,8 +555,8 @@ transfer-requires c κs = search needs
 advance-requires : tie.Need-advance-requires Inv-loop μ-loop
 advance-requires c κs = search needs
 
-mul-t154 : tie.Need-mul-t154 Inv-loop μ-loop
-mul-t154 c = search needs
+mul-t169 : tie.Need-mul-t169 Inv-loop μ-loop
+mul-t169 c = search needs
 
 element-set-from-dma : tie.Need-element-set-from-dma Inv-loop μ-loop
 element-set-from-dma c = search needs
@@ -544,26 +564,26 @@ element-set-from-dma c = search needs
 moved-payload-requires : tie.Need-moved-payload-requires Inv-loop μ-loop
 moved-payload-requires c κs = search needs
 
-tell-requires-5 : tie.Need-tell-requires-5 Inv-loop μ-loop
-tell-requires-5 c κs = omega (arith, c .before .before .before .before .before .before .before .before .before .before .before .before .before .before .before .before .before .before .before .before .before .loop .inv .2, c .before .before .before .before .before .before .before .before .before .before .before .before .before .before .before .before .before .before .before .before .before .before .before .before .before .before .least .ensures .1 .1, c .before .before .before .before .before .before .before .before .before .before .before .before .before .before .before .before .before .before .before .before .loop-test .taken)
+tell-requires-17 : tie.Need-tell-requires-17 Inv-loop μ-loop
+tell-requires-17 c κs = omega (arith, c .before .before .before .before .before .before .before .before .before .before .before .before .before .before .before .before .before .before .before .before .before .loop .inv .2, c .before .before .before .before .before .before .before .before .before .before .before .before .before .before .before .before .before .before .before .before .before .before .before .before .before .before .least .ensures .1 .1, c .before .before .before .before .before .before .before .before .before .before .before .before .before .before .before .before .before .before .before .before .loop-test .taken)
 
-add-i-16 : tie.Need-add-i-16 Inv-loop μ-loop
-add-i-16 c = omega (arith, c .before .before .before .before .before .before .before .before .before .before .before .before .before .before .before .before .before .before .before .before .before .before .before .before .loop .inv .2, c .before .before .before .before .before .before .before .before .before .before .before .before .before .before .before .before .before .before .before .before .before .before .before .before .before .before .before .before .before .least .ensures .1 .1, c .before .before .before .before .before .before .before .before .before .before .before .before .before .before .before .before .before .before .before .before .before .before .before .loop-test .taken, c .before .before .before .before .before .before .before .before .before .before .before .before .before .before .before .before .before .before .before .before .before .before .before .before .before .before .before .before .before .before .before .before .before .before .before .good)
+add-i-17 : tie.Need-add-i-17 Inv-loop μ-loop
+add-i-17 c = omega (arith, c .before .before .before .before .before .before .before .before .before .before .before .before .before .before .before .before .before .before .before .before .before .before .before .before .loop .inv .2, c .before .before .before .before .before .before .before .before .before .before .before .before .before .before .before .before .before .before .before .before .before .before .before .before .before .before .before .before .before .least .ensures .1 .1, c .before .before .before .before .before .before .before .before .before .before .before .before .before .before .before .before .before .before .before .before .before .before .before .loop-test .taken, c .before .before .before .before .before .before .before .before .before .before .before .before .before .before .before .before .before .before .before .before .before .before .before .before .before .before .before .before .before .before .before .before .before .before .before .good)
 
-loop-less-16 : tie.Need-loop-less-16 Inv-loop μ-loop
-loop-less-16 c = omega (arith, c .before .before .before .before .before .before .before .before .before .before .before .before .before .before .before .before .before .before .before .before .before .before .before .loop-test .taken)
+loop-less-17 : tie.Need-loop-less-17 Inv-loop μ-loop
+loop-less-17 c = omega (arith, c .before .before .before .before .before .before .before .before .before .before .before .before .before .before .before .before .before .before .before .before .before .before .before .loop-test .taken)
 
-loop-again-16 : tie.Need-loop-again-16 Inv-loop μ-loop
-loop-again-16 c =
+loop-again-17 : tie.Need-loop-again-17 Inv-loop μ-loop
+loop-again-17 c =
     let l = c .before .before .before .before .before .before .before .before .before .before .before .before .before .before .before .before .before .before .before .before .before .before .before .before .loop in
     let a = c .before .before .before .before .before .before .before .before .before .before .before .before .before .before .before .before .before .before .before .before .before .before .before .before .before .before .before .before .before .before .before .before .before .before .before .args in
-    let p = c .before .before .tell5 in
+    let p = c .before .before .tell17 in
     let q = c .before .before .before .before .before .before .before .before .before .before .before .before .before .before .before .before .before .before .before .before .before .before .record-at in
     let n : Board = record { icu = l .icu; intp = l .intp; timer = l .timer; dma = l .dma; kept = a .self .kept } in
     round (a .self) (a .memory .now) (take (a .size) (a .kept) ++ a .tape .now)
     (omega (arith, c .before .before .before .before .before .before .before .before .before .before .before .before .before .before .before .before .before .before .before .before .before .before .before .loop-test .taken)) (c .before .before .before .before .before .before .before .before .transfer .kept .1 .1 .0 ∙ l .inv .1) (p .kept .0 ∙ l .inv .2)
     (l .i) n _ (l .memory) (q .result) (c .before .before .before .before .before .before .before .before .transfer .last .1 .1 .0) (l .answers) (p .last .0) (a .answers .now) _ _
-    (l .inv .3) (l .inv .4) (l .inv .5) (q .ensures) (plain-unit n (q .result) (l .memory) (l .levels) (l .inv .6) _ (sym (c .before .before .before .before .before .before .before .before .before .before .before .before .before .before .before .before .before .before .before .before .before .decode .ensures) ∙ c .before .before .before .before .before .before .before .before .before .before .before .before .before .before .before .before .before .before .before .d .given .1) (sym (c .before .before .before .before .before .before .before .before .before .before .before .before .before .before .before .before .before .is-blocked .ensures) ∙ c .before .before .before .before .before .before .before .before .before .before .before .before .before .before .before .before .if1 .left) _ _ (c .before .before .before .before .before .before .before .before .before .before .before .before .before .before .o7 .given .1) (sym (c .before .before .before .before .before .before .before .before .before .before .before .is-plain .ensures) ∙ c .before .before .before .before .before .before .before .before .before .before .if7 .taken) _ _ _ _ (c .before .before .before .before .before .advance .ensures) (c .before .before .before .before .before .before .before .before .transfer .ensures .1) (c .before .before .before .before .before .before .before .before .transfer .ensures .0) (c .before .before .before .before .moved-payload .ensures)) (p .ensures)
+    (l .inv .3) (l .inv .4) (l .inv .5) (q .ensures) (plain-unit n (q .result) (l .memory) (l .levels) (l .inv .6) _ (sym (c .before .before .before .before .before .before .before .before .before .before .before .before .before .before .before .before .before .before .before .before .before .decode .ensures) ∙ c .before .before .before .before .before .before .before .before .before .before .before .before .before .before .before .before .before .before .before .d .given .1) (sym (c .before .before .before .before .before .before .before .before .before .before .before .before .before .before .before .before .before .is-blocked .ensures) ∙ c .before .before .before .before .before .before .before .before .before .before .before .before .before .before .before .before .if1 .left) _ _ (c .before .before .before .before .before .before .before .before .before .before .before .before .before .before .o7 .given .1) (sym (c .before .before .before .before .before .before .before .before .before .before .before .is-plain .ensures) ∙ c .before .before .before .before .before .before .before .before .before .before .if8 .taken) _ _ _ _ (c .before .before .before .before .before .advance .ensures) (c .before .before .before .before .before .before .before .before .transfer .ensures .1) (c .before .before .before .before .before .before .before .before .transfer .ensures .0) (c .before .before .before .before .moved-payload .ensures)) (p .ensures)
 
 cycle-requires : tie.Need-cycle-requires Inv-loop μ-loop
 cycle-requires c κs = search needs
@@ -574,20 +594,20 @@ byte-moved-requires c κs = search needs
 payload-requires : tie.Need-payload-requires Inv-loop μ-loop
 payload-requires c κs = search needs
 
-tell-requires-6 : tie.Need-tell-requires-6 Inv-loop μ-loop
-tell-requires-6 c κs = omega (arith, c .before .before .before .before .before .before .before .before .before .before .before .before .before .before .before .before .before .before .before .before .before .before .loop .inv .2, c .before .before .before .before .before .before .before .before .before .before .before .before .before .before .before .before .before .before .before .before .before .before .before .before .before .before .before .least .ensures .1 .1, c .before .before .before .before .before .before .before .before .before .before .before .before .before .before .before .before .before .before .before .before .before .loop-test .taken)
+tell-requires-18 : tie.Need-tell-requires-18 Inv-loop μ-loop
+tell-requires-18 c κs = omega (arith, c .before .before .before .before .before .before .before .before .before .before .before .before .before .before .before .before .before .before .before .before .before .before .loop .inv .2, c .before .before .before .before .before .before .before .before .before .before .before .before .before .before .before .before .before .before .before .before .before .before .before .before .before .before .before .least .ensures .1 .1, c .before .before .before .before .before .before .before .before .before .before .before .before .before .before .before .before .before .before .before .before .before .loop-test .taken)
 
-add-i-17 : tie.Need-add-i-17 Inv-loop μ-loop
-add-i-17 c = omega (arith, c .before .before .before .before .before .before .before .before .before .before .before .before .before .before .before .before .before .before .before .before .before .before .before .before .before .loop .inv .2, c .before .before .before .before .before .before .before .before .before .before .before .before .before .before .before .before .before .before .before .before .before .before .before .before .before .before .before .before .before .before .least .ensures .1 .1, c .before .before .before .before .before .before .before .before .before .before .before .before .before .before .before .before .before .before .before .before .before .before .before .before .loop-test .taken, c .before .before .before .before .before .before .before .before .before .before .before .before .before .before .before .before .before .before .before .before .before .before .before .before .before .before .before .before .before .before .before .before .before .before .before .before .good)
+add-i-18 : tie.Need-add-i-18 Inv-loop μ-loop
+add-i-18 c = omega (arith, c .before .before .before .before .before .before .before .before .before .before .before .before .before .before .before .before .before .before .before .before .before .before .before .before .before .loop .inv .2, c .before .before .before .before .before .before .before .before .before .before .before .before .before .before .before .before .before .before .before .before .before .before .before .before .before .before .before .before .before .before .least .ensures .1 .1, c .before .before .before .before .before .before .before .before .before .before .before .before .before .before .before .before .before .before .before .before .before .before .before .before .loop-test .taken, c .before .before .before .before .before .before .before .before .before .before .before .before .before .before .before .before .before .before .before .before .before .before .before .before .before .before .before .before .before .before .before .before .before .before .before .before .good)
 
-loop-less-17 : tie.Need-loop-less-17 Inv-loop μ-loop
-loop-less-17 c = omega (arith, c .before .before .before .before .before .before .before .before .before .before .before .before .before .before .before .before .before .before .before .before .before .before .before .before .loop-test .taken)
+loop-less-18 : tie.Need-loop-less-18 Inv-loop μ-loop
+loop-less-18 c = omega (arith, c .before .before .before .before .before .before .before .before .before .before .before .before .before .before .before .before .before .before .before .before .before .before .before .before .loop-test .taken)
 
-loop-again-17 : tie.Need-loop-again-17 Inv-loop μ-loop
-loop-again-17 c =
+loop-again-18 : tie.Need-loop-again-18 Inv-loop μ-loop
+loop-again-18 c =
     let l = c .before .before .before .before .before .before .before .before .before .before .before .before .before .before .before .before .before .before .before .before .before .before .before .before .before .loop in
     let a = c .before .before .before .before .before .before .before .before .before .before .before .before .before .before .before .before .before .before .before .before .before .before .before .before .before .before .before .before .before .before .before .before .before .before .before .before .args in
-    let p = c .before .before .tell6 in
+    let p = c .before .before .tell18 in
     let q = c .before .before .before .before .before .before .before .before .before .before .before .before .before .before .before .before .before .before .before .before .before .before .before .record-at in
     let n : Board = record { icu = l .icu; intp = l .intp; timer = l .timer; dma = l .dma; kept = a .self .kept } in
     round (a .self) (a .memory .now) (take (a .size) (a .kept) ++ a .tape .now)
@@ -610,4 +630,4 @@ returns c =
     in (rw (← e) (l .inv .3), (rw (← e) (l .inv .4), rw (← e) (l .inv .5)))
 
 pub run-spec : {M : Type 1} → statement M
-run-spec = tie.close (tie.spec Inv-loop μ-loop count-bytes-requires least-requires levels-requires loop-holds record-at-requires array-read-op decode-requires enum-known-d enum-told tell-bare-requires add-i loop-less loop-again is-blocked-requires tell-bare-requires-2 add-i-2 loop-less-2 loop-again-2 enum-told-2 reset-requires reset-requires-2 reset-requires-3 tell-bare-requires-3 add-i-3 loop-less-3 loop-again-3 enum-known-o write-icu-requires levels-at-requires tell-requires add-i-4 loop-less-4 loop-again-4 write-requires rewire-requires tell-bare-requires-4 add-i-5 loop-less-5 loop-again-5 tell-bare-requires-5 add-i-6 loop-less-6 loop-again-6 write-requires-2 tell-bare-requires-6 add-i-7 loop-less-7 loop-again-7 enum-known-o-2 lines-at-requires read-icu-requires tell-requires-2 add-i-8 loop-less-8 loop-again-8 cast-n mul-c element-copy-out-c look-requires mul-c-2 element-set-from-c tell-bare-requires-7 add-i-9 loop-less-9 loop-again-9 look-requires-2 tell-bare-requires-8 add-i-10 loop-less-10 loop-again-10 enum-known-o-3 rewire-requires-2 tell-bare-requires-9 add-i-11 loop-less-11 loop-again-11 enum-known-o-4 set-gates-requires rewire-requires-3 tell-bare-requires-10 add-i-12 loop-less-12 loop-again-12 enum-known-o-5 set-requests-requires tell-bare-requires-11 add-i-13 loop-less-13 loop-again-13 enum-told-3 lines-at-requires-2 acknowledge-requires levels-at-requires-2 tell-requires-3 add-i-14 loop-less-14 loop-again-14 enum-known-o-6 run-pulses-requires levels-at-requires-3 rises-payload-requires tell-requires-4 add-i-15 loop-less-15 loop-again-15 enum-known-o-7 cast-at mul-c-3 element-copy-out-c-2 is-plain-requires transfer-requires advance-requires mul-t154 element-set-from-dma moved-payload-requires tell-requires-5 add-i-16 loop-less-16 loop-again-16 cycle-requires byte-moved-requires payload-requires tell-requires-6 add-i-17 loop-less-17 loop-again-17 same-length same-length-2 returns)
+run-spec = tie.close (tie.spec Inv-loop μ-loop count-bytes-requires least-requires levels-requires loop-holds record-at-requires array-read-op decode-requires enum-known-d enum-told tell-requires add-i loop-less loop-again is-blocked-requires tell-requires-2 add-i-2 loop-less-2 loop-again-2 enum-told-2 reset-requires reset-requires-2 reset-requires-3 tell-requires-3 add-i-3 loop-less-3 loop-again-3 enum-known-o write-icu-requires levels-at-requires tell-requires-4 add-i-4 loop-less-4 loop-again-4 write-requires rewire-requires tell-requires-5 add-i-5 loop-less-5 loop-again-5 tell-requires-6 add-i-6 loop-less-6 loop-again-6 write-requires-2 tell-requires-7 add-i-7 loop-less-7 loop-again-7 tell-requires-8 add-i-8 loop-less-8 loop-again-8 enum-known-o-2 lines-at-requires read-icu-requires tell-requires-9 add-i-9 loop-less-9 loop-again-9 cast-n mul-c element-copy-out-c look-requires mul-c-2 element-set-from-c tell-requires-10 add-i-10 loop-less-10 loop-again-10 look-requires-2 tell-requires-11 add-i-11 loop-less-11 loop-again-11 enum-known-o-3 rewire-requires-2 tell-requires-12 add-i-12 loop-less-12 loop-again-12 enum-known-o-4 set-gates-requires rewire-requires-3 tell-requires-13 add-i-13 loop-less-13 loop-again-13 enum-known-o-5 set-requests-requires tell-requires-14 add-i-14 loop-less-14 loop-again-14 enum-told-3 lines-at-requires-2 acknowledge-requires levels-at-requires-2 tell-requires-15 add-i-15 loop-less-15 loop-again-15 enum-known-o-6 run-pulses-requires levels-at-requires-3 rises-payload-requires tell-requires-16 add-i-16 loop-less-16 loop-again-16 enum-known-o-7 cast-at mul-c-3 element-copy-out-c-2 is-plain-requires transfer-requires advance-requires mul-t169 element-set-from-dma moved-payload-requires tell-requires-17 add-i-17 loop-less-17 loop-again-17 cycle-requires byte-moved-requires payload-requires tell-requires-18 add-i-18 loop-less-18 loop-again-18 same-length same-length-2 returns)
