@@ -535,7 +535,7 @@ impl Board {
                 Operation::Write(port, x) => {
                     let chip = port / 16;
                     if chip == 0 {
-                        let t = write_icu(icu, port % 2 == 1, x);
+                        let t = write_icu(icu, port % Icu::PORTS == 1, x);
                         let p = t.payload;
                         icu = t.icu;
                         levels = levels_at(icu, intp, timer);
@@ -570,14 +570,14 @@ impl Board {
                 Operation::Read(port) => {
                     let chip = port / 16;
                     if chip == 0 {
-                        let t = read_icu(icu, port % 2 == 1, lines_at(intp, timer));
+                        let t = read_icu(icu, port % Icu::PORTS == 1, lines_at(intp, timer));
                         let p = t.payload;
                         tell(answers, i, t.status, op, t.byte, levels, p);
                         continue;
                     }
                     // port 13H is not open to reads, so this is a counter's: `% 3` keeps the index in range and changes nothing
                     if chip == 1 {
-                        let n = (port % 4 % 3) as usize;
+                        let n = (port % Timer::PORTS % 3) as usize;
                         let mut c = timer.counters[n];
                         let s = c.look();
                         c.latched = s.latched;

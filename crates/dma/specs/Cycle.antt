@@ -36,8 +36,8 @@ reads c = eqb (c .mode / 4 % 4) 2
 unfoldable pub ready : Dma → ℕ → Bool
 ready d n = if chan d n .masked then false else bitOf (d .requests) n
 
--- The channel at rank k. With fixed rank channel 0 is first, with rotation the one that follows the last served; the others come after it
--- in the order of their numbers, modulo 4.
+-- The channel at rank k. With fixed rank channel 0 is first, with rotation the one that follows the last served, and channel 0 when rotation is
+-- turned on; the others come after it in the order of their numbers, modulo 4.
 unfoldable pub channelAt : Dma → ℕ → ℕ
 channelAt d k = ((if d .rotate then d .first else 0) + k) % 4
 
@@ -163,8 +163,8 @@ cycleBy d e b m serving releases disabled unready =
 unfoldable pub cycleOf : Dma → Bool → ℕ → List ℕ → Out
 cycleOf d e b m = cycleBy d e b m (d .serving) (releases d) (d .disabled) (eqb (winner d) 4)
 
--- Whether a cycle moves a unit of channel n, which is c, and no more: the channel is served, it does not release, and service does not stop with
--- the unit. Of the chip such a cycle changes that channel's current address and count alone.
+-- Whether a cycle moves a unit of channel n, which is c, and no more: n is one of the four channels and is served, it does not release, and
+-- service does not stop with the unit. Of the chip such a cycle changes that channel's current address and count alone.
 unfoldable pub plainOf : Channel → Bool → ℕ → ℕ → Bool → Bool
 plainOf c serving n requests e =
     serving and not (leb 4 n) and not (stopsOf c (lastOf c e)) and (not (demand c) or bitOf requests n)

@@ -118,7 +118,22 @@ maskedBy d x =
     ∷ [])
     d
 
--- A write of x. 7 and B are not there to write. C, D and E are not built. Bits that 0, 1 and F do not have are ignored.
+-- The registers, with the status where it is not 0:
+--
+--        written                          read
+--   0    initialize; 4 with 16B           2
+--   1    channel and BASE                 channel and BASE
+--   2-3  count, low byte first            count
+--   4-6  address, low byte first          address
+--   7    2                                2
+--   8    device control; 4 with other bits    device control
+--   9    zero; 4 otherwise                zero
+--   A    mode control; 4 if not built     mode control
+--   B    2                                status, which clears the end bits
+--   C-E  4                                4
+--   F    masks                            masks
+--
+-- A write of x. Bits that 0, 1 and F do not have are ignored.
 abbrev pub writeAt : Dma → ℕ → ℕ → Written
 writeAt d r x =
     if eqb r 0 then initializedOf d x
@@ -167,8 +182,7 @@ abbrev pub masksOf : Dma → ℕ
 masksOf d =
     weighed (chan d 0 .masked) 1 + weighed (chan d 1 .masked) 2 + weighed (chan d 2 .masked) 4 + weighed (chan d 3 .masked) 8
 
--- A read. 1 shows BASE (D4), and of SEL3-SEL0 the one bit of the selected channel. 0 and 7 are not there to read. C, D and E
--- are not built.
+-- A read. 1 shows BASE (D4), and of SEL3-SEL0 the one bit of the selected channel.
 abbrev pub readAt : Dma → ℕ → Got
 readAt d r =
     if eqb r 0 then unread 2 d

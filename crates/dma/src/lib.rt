@@ -278,8 +278,8 @@ impl Channel {
     }
 }
 
-// Whether a cycle moves a unit of channel n, which is c, and nothing more comes of it. Most units are like that, and such a one changes no other
-// field of the chip.
+// Whether a cycle moves a unit of channel n, which is c, and nothing more comes of it. Most units are like that, and such a one changes nothing of
+// the chip but that channel's address and count.
 pub fn is_plain(c: Channel, serving: bool, n: u8, requests: u8, end: bool) -> bool
     ensures { λ r. ⌜ r ≡ plainOf c serving n requests end ⌝ }
 {
@@ -310,7 +310,9 @@ impl Dma {
     // the addresses that 24 bits name
     pub const SPACE: u32 = 16777216;
 
-    // register numbers, A3-A0, from here on
+    // A3-A0; their numbers, which are the registers', from here on
+    pub const PORTS: u8 = 16;
+
     pub const INITIALIZE: u8 = 0;
 
     pub const SELECTION: u8 = 1;
@@ -546,7 +548,7 @@ impl Dma {
     pub fn write(self, register: u8, x: u8) -> Written
         ensures { λ r. ⌜ r ≡ writeOf self register x ⌝ }
     {
-        let r = register % 16;
+        let r = register % Dma::PORTS;
         if r == Dma::INITIALIZE {
             return self.initialize(x);
         }
@@ -629,7 +631,7 @@ impl Dma {
     pub fn look(self, register: u8) -> Seen
         ensures { λ r. ⌜ r ≡ seenOf self register ⌝ }
     {
-        let r = register % 16;
+        let r = register % Dma::PORTS;
         if r == Dma::INITIALIZE {
             return self.hide(2);
         }

@@ -1,3 +1,4 @@
 pub mod Ranks
 pub mod Int
 pub mod Once
+pub mod Command

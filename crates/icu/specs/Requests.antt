@@ -29,7 +29,8 @@ intOf c lines = ready c and some (λ n. bitOf (askedOf c lines) n and outranksAl
 abbrev pub rises : ℕ → ℕ → ℕ
 rises was now = maskedOf now was
 
--- The lines change. In edge trigger each line that rises while the chip is ready makes a request, which lasts until it is acknowledged.
+-- The lines change. In edge trigger each line that rises while the chip is ready makes a request, which lasts until it is acknowledged, or IW1
+-- or reset clears it.
 unfoldable pub linesOf : Icu → ℕ → ℕ → Icu
 linesOf c was now =
     if ready c then (if lev c then c else edges-is (bitOr (c .edges) (rises was now)) c) else c

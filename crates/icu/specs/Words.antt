@@ -1,5 +1,5 @@
 -- Reset, and the words that the processor writes.
-use Prim.Native.Nat.{ℕ, _/_, _%_}
+use Prim.Native.Nat.{ℕ, _%_}
 use mathlib.Core.Bool.{Bool, true, false}
 use lib.Dec.{eqb}
 use Rattle.bits.specs.Choice.{if_then_else_, _and_}
@@ -40,7 +40,7 @@ resetOf =
     }
 
 -- IW1. The requests, ISR and IMR are cleared, reads show IRR, level 7 is lowest, the rotation in self-FI ends, and IW4 is
--- forgotten: FI commands and CALL mode. IW2 stays until it is written.
+-- forgotten (all zero): normal FI, and CALL mode. IW2 stays until it is written.
 unfoldable pub iw1 : Icu → ℕ → Icu
 iw1 c x =
     record {
@@ -87,7 +87,7 @@ laterWord c x =
 abbrev pub setsExceptional : ℕ → Bool
 setsExceptional x = bitOf x 6 and bitOf x 5
 
--- MCW. Polling (D2) and the exceptional nesting mode (D6 with D5) are not built. D1 has D0 choose what reads at A0=0 show: ISR or IRR.
+-- MCW. Polling (D2) and the exceptional nesting mode (D6 with D5) are not built. With D1, D0 chooses what reads at A0=0 show: IRR (0) or ISR (1).
 unfoldable pub mcw : Icu → ℕ → Told
 mcw c x =
     if bitOf x 2 then refused 4 c
@@ -95,32 +95,33 @@ mcw c x =
     else if bitOf x 1 then done (showsisr-is (bitOf x 0) c)
     else done c
 
--- FI without a level: the highest-ranked level in service ends, and with rotation becomes lowest. With none in service nothing happens.
+-- Level n is in service no more.
 abbrev pub ended : Icu → ℕ → Icu
 ended c n = isr-is (withoutOf (c .isr) n) c
 
+-- FI without a level: the highest-ranked level in service ends, and with rotation becomes lowest. With none in service nothing happens.
 unfoldable pub finished : Icu → Bool → Icu
 finished c rotate =
     if eqb (c .isr) 0 then c
     else if rotate then lowest-is (highestOf (c .isr) (c .lowest)) (ended c (highestOf (c .isr) (c .lowest)))
     else ended c (highestOf (c .isr) (c .lowest))
 
--- PFCW, by D7 D6 D5: rotate priority, specify a level (D2-D0), finish.
--- 001 and 101 finish the highest-ranked level in service, which 101 makes lowest. 011 and 111 finish the level they name; 111, and 110
--- which finishes nothing, make it lowest, in service or not. 100 starts and 000 ends the rotation in self-FI. 010 does nothing.
-abbrev pub commanded : Icu → ℕ → ℕ → Icu
-commanded c command n =
-    if eqb command 0 then rotation-is false c
-    else if eqb command 1 then finished c false
-    else if eqb command 3 then ended c n
-    else if eqb command 4 then rotation-is true c
-    else if eqb command 5 then finished c true
-    else if eqb command 6 then lowest-is n c
-    else if eqb command 7 then lowest-is n (ended c n)
-    else c
+-- PFCW, by D7 D6 D5: RP (rotate priority), SIL (specify a level), FI (finish). The level that it names is n.
+abbrev pub commanded : Bool → Bool → Bool → Icu → ℕ → Icu
+-- 001 and 101
+commanded false false true c n = finished c false
+commanded true false true c n = finished c true
+-- 011; 111 and 110, which make the level lowest, in service or not
+commanded false true true c n = ended c n
+commanded true true true c n = lowest-is n (ended c n)
+commanded true true false c n = lowest-is n c
+-- 100 and 000, the rotation in self-FI; 010
+commanded true false false c n = rotation-is true c
+commanded false false false c n = rotation-is false c
+commanded false true false c n = c
 
 unfoldable pub pfcw : Icu → ℕ → Icu
-pfcw c x = commanded c (x / 32) (x % 8)
+pfcw c x = commanded (bitOf x 7) (bitOf x 6) (bitOf x 5) c (x % 8)
 
 -- A write. At A0=0 a word with D4 set is IW1, at any time; only the single mode (D1) is built. Without D4 the chip must be ready, and
 -- D3 tells MCW from PFCW.

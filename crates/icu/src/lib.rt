@@ -87,7 +87,7 @@ fn rank(lowest: u8, level: u8) -> u8
 }
 
 impl Icu {
-    // A0=0 and A0=1.
+    // A0
     pub const PORTS: u8 = 2;
 
     pub const LEVELS: u8 = 8;

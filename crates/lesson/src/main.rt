@@ -11,7 +11,6 @@ use words::notation::Parsed;
 use words::pieces;
 use words::sentences;
 use words::text;
-use words::text::Text;
 
 // What is done with each record of a lesson, or of a tape, or with each answer.
 const CHECK: u8 = 0;

@@ -1,4 +1,4 @@
-// What the board has to do with a row: the facts of it that choose the sentences. It is the board before the record.
+// What the board has to do with a row: the facts of the board, as it is before the record, that choose the sentences.
 use board::Board;
 use words::answered;
 use words::asked;

@@ -1,15 +1,19 @@
 -- What a record asks for, with the bytes that it asks by.
 use mathlib.Core.Path.{_≡_, refl, sym, ap, subst, _∙_}
+use mathlib.Core.Logic.{_≢_}
 use mathlib.Core.List.{List}
 use mathlib.Core.Bool.{Bool, true, false}
 use Prim.Native.Nat.{ℕ, _/_, _%_, _<_}
+use native.Mathlib.Omega.{arith}
+use borrow.Author.Tests.{ne-eqb}
 use lib.Dec.{eqb, ltb, leb}
 use Rattle.bits.specs.Choice.{if_then_else_, _and_, every}
 use Rattle.bits.proofs.Every.{alike}
+use Rattle.tape.specs.declared.Operation.{Operation}
 use Rattle.tape.specs.declared.Operation.the-variants.{Reset, Write, Read, Intp, Gates, Requests, Acknowledge, Advance, Cycle}
 use Rattle.tape.specs.declared.Decoded.{Decoded}
 use Rattle.tape.specs.declared.Decoded.the-variants.{Asked, Malformed}
-use Rattle.tape.specs.Records.{byte, unused, writable, readable, linesAsked, pulseCount, laterAsked, decodeOf}
+use Rattle.tape.specs.Records.{byte, unused, writable, readable, linesAsked, pulseCount, askedIf, decodeOf}
 
 -- A record is malformed, or asks for an operation by its number and with the bytes that this operation uses.
 pub data Decodes (r : List ℕ) : Decoded → Type 0 where
@@ -30,6 +34,12 @@ either P true f g = f refl
 either P false f g = g refl
 
 module _ (r : List ℕ) where
+  -- an operation that fits by two tests
+  both : (p q : Bool) {o : Operation} → (q ≡ true → Decodes r (Asked o)) → Decodes r (askedIf (p and q) o)
+  both true true f = f refl
+  both true false f = malformed
+  both false q f = malformed
+
   lines : eqb (byte r 0) 3 ≡ true → Decodes r (linesAsked (byte r 1) (byte r 2))
   unfolding linesAsked
   lines o =
@@ -41,37 +51,34 @@ module _ (r : List ℕ) where
       (λ g. either (Decodes r) (ltb (byte r 2) 16) (λ l. requests o l) (λ l. malformed))
       (λ _. malformed)))
 
-  later : Decodes r (laterAsked r)
-  unfolding laterAsked
-  later =
-      either (Decodes r) (eqb (byte r 0) 4)
-      (λ o. either (Decodes r) (unused r 1 7) (λ _. acknowledge o) (λ _. malformed))
-      (λ _. either (Decodes r) (eqb (byte r 0) 5)
-      (λ o. either (Decodes r) (unused r 1 3)
-      (λ _. either (Decodes r) (leb (pulseCount r) 65535) (λ l. advance o l) (λ _. malformed))
-      (λ _. malformed))
-      (λ _. either (Decodes r) (eqb (byte r 0) 6)
-      (λ o. either (Decodes r) (unused r 3 5)
-      (λ _. either (Decodes r) (leb (byte r 1) 1) (λ _. cycle o) (λ _. malformed))
-      (λ _. malformed))
-      (λ _. malformed)))
-
   pub decodes : Decodes r (decodeOf r)
   unfolding decodeOf
   decodes =
       either (Decodes r) (eqb (byte r 0) 0)
       (λ o. either (Decodes r) (unused r 1 7) (λ _. reset o) (λ _. malformed))
       (λ _. either (Decodes r) (eqb (byte r 0) 1)
-      (λ o. either (Decodes r) (unused r 3 5)
-      (λ _. either (Decodes r) (writable (byte r 1)) (λ p. write o p) (λ _. malformed))
-      (λ _. malformed))
+      (λ o. both (unused r 3 5) (writable (byte r 1)) (write o))
       (λ _. either (Decodes r) (eqb (byte r 0) 2)
-      (λ o. either (Decodes r) (unused r 2 6)
-      (λ _. either (Decodes r) (readable (byte r 1)) (λ p. read o p) (λ _. malformed))
-      (λ _. malformed))
+      (λ o. both (unused r 2 6) (readable (byte r 1)) (read o))
       (λ _. either (Decodes r) (eqb (byte r 0) 3)
       (λ o. either (Decodes r) (unused r 3 5) (λ _. lines o) (λ _. malformed))
-      (λ _. later))))
+      (λ _. either (Decodes r) (eqb (byte r 0) 4)
+      (λ o. either (Decodes r) (unused r 1 7) (λ _. acknowledge o) (λ _. malformed))
+      (λ _. either (Decodes r) (eqb (byte r 0) 5)
+      (λ o. both (unused r 1 3) (leb (pulseCount r) 65535) (advance o))
+      (λ _. either (Decodes r) (eqb (byte r 0) 6)
+      (λ o. both (unused r 3 5) (leb (byte r 1) 1) (λ _. cycle o))
+      (λ _. malformed)))))))
+
+  -- past 3 there are the operations 4 to 6
+  pub unknown : byte r 0 ≢ 4 → byte r 0 ≢ 5 → byte r 0 ≢ 6 → 3 < byte r 0 → decodeOf r ≡ Malformed
+  unfolding decodeOf
+  unknown n4 n5 n6 h =
+      let n0 : byte r 0 ≢ 0 = omega (arith, h) in
+      let n1 : byte r 0 ≢ 1 = omega (arith, h) in
+      let n2 : byte r 0 ≢ 2 = omega (arith, h) in
+      let n3 : byte r 0 ≢ 3 = omega (arith, h) in
+      rw (ne-eqb _ _ n0, ne-eqb _ _ n1, ne-eqb _ _ n2, ne-eqb _ _ n3, ne-eqb _ _ n4, ne-eqb _ _ n5, ne-eqb _ _ n6)
 
 -- A read asks for a port that is open to reads; so where it is the timer's, it is a counter's.
 abbrev Open : Decoded → Type 0

@@ -2,7 +2,7 @@
 use Prim.Native.Nat.{ℕ, _<_}
 use mathlib.Core.Bool.{Bool, true, false}
 use mathlib.Core.Path.{_≡_}
-use lib.Dec.{eqb, ltb}
+use lib.Dec.{eqb, ltb, leb}
 use Rattle.bits.specs.Choice.{if_then_else_, every}
 use Rattle.bits.proofs.Every.{alike}
 use Rattle.tape.specs.Records.{writable, readable}
@@ -22,7 +22,7 @@ readableBy p =
     if ltb p 2 then true
     else if ltb p 16 then false
     else if ltb p 19 then true
-    else if ltb p 33 then false
+    else if leb p 32 then false
     else if eqb p 39 then false
     else ltb p 48
 

@@ -40,42 +40,34 @@ writable p = icuPort p or timerPort p or (dmaPort p and not (eqb p 39) and not (
 unfoldable pub readable : ℕ → Bool
 readable p = icuPort p or (timerPort p and not (eqb p 19)) or (dmaPort p and not (eqb p 32) and not (eqb p 39))
 
+-- An operation, asked for by a record that fits; a record that doesn't is malformed.
+abbrev pub askedIf : Bool → Operation → Decoded
+askedIf fits o = if fits then Asked o else Malformed
+
 -- Operation 3: group 0 is INTP with bits 1 to 7, group 1 the gates with bits 0 to 2, group 2 the DMA requests with bits 0 to 3.
 unfoldable pub linesAsked : ℕ → ℕ → Decoded
 linesAsked group levels =
-    if eqb group 0 then (if eqb (levels % 2) 0 then Asked (Intp levels) else Malformed)
-    else if eqb group 1 then (if ltb levels 8 then Asked (Gates levels) else Malformed)
-    else if eqb group 2 then (if ltb levels 16 then Asked (Requests levels) else Malformed)
+    if eqb group 0 then askedIf (eqb (levels % 2) 0) (Intp levels)
+    else if eqb group 1 then askedIf (ltb levels 8) (Gates levels)
+    else if eqb group 2 then askedIf (ltb levels 16) (Requests levels)
     else Malformed
 
 -- Operation 5 counts its pulses in bytes 4 to 7, little end first.
 unfoldable pub pulseCount : List ℕ → ℕ
 pulseCount r = byte r 4 + byte r 5 * 256 + byte r 6 * 65536 + byte r 7 * 16777216
 
--- Operation 4 is an acknowledge, 5 an advance by 65,535 pulses at the most, 6 a DMA cycle with END in byte 1 and the device's byte in
--- byte 2.
-unfoldable pub laterAsked : List ℕ → Decoded
-laterAsked r =
-    if eqb (byte r 0) 4 then (if unused r 1 7 then Asked Acknowledge else Malformed)
-    else if eqb (byte r 0) 5 then
-    (if unused r 1 3 then (if leb (pulseCount r) 65535 then Asked (Advance (pulseCount r)) else Malformed) else Malformed)
-    else if eqb (byte r 0) 6 then
-    (if unused r 3 5 then
-    (if leb (byte r 1) 1 then Asked (Cycle (eqb (byte r 1) 1) (byte r 2)) else Malformed)
-    else Malformed)
-    else Malformed
-
--- Operation 0 is a reset, 1 writes byte 2 to the port in byte 1, 2 reads that port, 3 sets a group of lines. A record that is none of the
--- seven, or sets a byte that its operation does not use, is malformed.
+-- The operations. Each has a line: its number, the bytes that it does not use with what else must hold, and what it asks for by the bytes that it
+-- uses. Any other number is malformed.
 unfoldable pub decodeOf : List ℕ → Decoded
 decodeOf r =
-    if eqb (byte r 0) 0 then (if unused r 1 7 then Asked Reset else Malformed)
-    else if eqb (byte r 0) 1 then
-    (if unused r 3 5 then (if writable (byte r 1) then Asked (Write (byte r 1) (byte r 2)) else Malformed) else Malformed)
-    else if eqb (byte r 0) 2 then
-    (if unused r 2 6 then (if readable (byte r 1) then Asked (Read (byte r 1)) else Malformed) else Malformed)
+    if eqb (byte r 0) 0 then askedIf (unused r 1 7) Reset
+    else if eqb (byte r 0) 1 then askedIf (unused r 3 5 and writable (byte r 1)) (Write (byte r 1) (byte r 2))
+    else if eqb (byte r 0) 2 then askedIf (unused r 2 6 and readable (byte r 1)) (Read (byte r 1))
     else if eqb (byte r 0) 3 then (if unused r 3 5 then linesAsked (byte r 1) (byte r 2) else Malformed)
-    else laterAsked r
+    else if eqb (byte r 0) 4 then askedIf (unused r 1 7) Acknowledge
+    else if eqb (byte r 0) 5 then askedIf (unused r 1 3 and leb (pulseCount r) 65535) (Advance (pulseCount r))
+    else if eqb (byte r 0) 6 then askedIf (unused r 3 5 and leb (byte r 1) 1) (Cycle (eqb (byte r 1) 1) (byte r 2))
+    else Malformed
 
 -- Writes, reads and acknowledges need the bus, which a served DMA channel has.
 abbrev pub usesBus : Operation → Bool

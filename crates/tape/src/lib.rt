@@ -3,7 +3,7 @@ ghost use mathlib.Core.Path.{_≡_};
 ghost use mathlib.Core.List.{_++_};
 ghost use Prim.Native.Nat.{_+_, _<_, _≤_};
 ghost use lib.ListN.{length, take, getD};
-ghost use Rattle.tape.specs.Records.{heldOf, unused, writable, readable, pulseCount, linesAsked, laterAsked, decodeOf, usesBus};
+ghost use Rattle.tape.specs.Records.{heldOf, unused, writable, readable, pulseCount, linesAsked, decodeOf, usesBus};
 ghost use Rattle.tape.specs.Answers.{twelve, littleOf, answerOf};
 
 // What a record asks for. Lines come by group: INTP, gates, DMA requests.
@@ -33,6 +33,24 @@ pub const RECORD: usize = 8;
 pub const ANSWER: usize = 16;
 
 pub const MOST_PULSES: u32 = 65535;
+
+// the ports: the first of each chip, and the one past its last
+const ICU_END: u8 = 0x02;
+
+const TIMER: u8 = 0x10;
+
+const TIMER_END: u8 = 0x14;
+
+const DMA: u8 = 0x20;
+
+const DMA_END: u8 = 0x30;
+
+// ports that are not there to read, to do either with, to write
+const TIMER_CONTROL: u8 = 0x13;
+
+const DMA_GAP: u8 = 0x27;
+
+const DMA_STATUS: u8 = 0x2b;
 
 fn wide(x: u8) -> u32
     ensures { λ r. ⌜ r ≡ x ⌝ }
@@ -135,47 +153,47 @@ fn is_zero_to_3(r: [u8; 8]) -> bool
 pub fn is_writable(port: u8) -> bool
     ensures { λ r. ⌜ r ≡ writable port ⌝ }
 {
-    if port < 2 {
+    if port < ICU_END {
         return true;
     }
-    if port < 0x10 {
+    if port < TIMER {
         return false;
     }
-    if port < 0x14 {
+    if port < TIMER_END {
         return true;
     }
-    if port < 0x20 {
+    if port < DMA {
         return false;
     }
-    if port == 0x27 {
+    if port == DMA_GAP {
         return false;
     }
-    if port == 0x2b {
+    if port == DMA_STATUS {
         return false;
     }
-    port < 0x30
+    port < DMA_END
 }
 
-// The ports that a read may name.
+// The ports that a read may name. The DMA chip's first is not among them.
 pub fn is_readable(port: u8) -> bool
     ensures { λ r. ⌜ r ≡ readable port ⌝ }
 {
-    if port < 2 {
+    if port < ICU_END {
         return true;
     }
-    if port < 0x10 {
+    if port < TIMER {
         return false;
     }
-    if port < 0x13 {
+    if port < TIMER_CONTROL {
         return true;
     }
-    if port < 0x21 {
+    if port <= DMA {
         return false;
     }
-    if port == 0x27 {
+    if port == DMA_GAP {
         return false;
     }
-    port < 0x30
+    port < DMA_END
 }
 
 // The pulses that bytes 4 to 7 count, little end first.
@@ -248,9 +266,10 @@ pub fn decode(r: [u8; 8]) -> Decoded
     decode_later(r)
 }
 
-// Operations 4 to 6.
+// The same from operation 4 on.
 fn decode_later(r: [u8; 8]) -> Decoded
-    ensures { λ d. ⌜ d ≡ laterAsked r ⌝ }
+    requires { ⌜ 3 < getD r 0 0 ⌝ }
+    ensures { λ d. ⌜ d ≡ decodeOf r ⌝ }
 {
     let op = r[0];
     if op == 4 {

@@ -563,7 +563,10 @@ impl Counter {
 impl Timer {
     pub const COUNTERS: usize = 3;
 
-    // A1-A0 of the control port, which is not open to reads
+    // A1-A0
+    pub const PORTS: u8 = 4;
+
+    // the control port among them, which is not open to reads
     pub const CONTROL: u8 = 3;
 
     // Three counters at their reset.
@@ -624,11 +627,11 @@ impl Timer {
         self.answer(n, c.control(word))
     }
 
-    // A write at A1-A0 = a % 4.
+    // A write at A1-A0 of a.
     pub fn write(self, a: u8, x: u8) -> Written
         ensures { λ r. ⌜ r ≡ writesOf self a x ⌝ }
     {
-        let port = a % 4;
+        let port = a % Timer::PORTS;
         if port == Timer::CONTROL {
             return self.control(x);
         }
@@ -637,11 +640,11 @@ impl Timer {
         self.answer(n, c.write(x))
     }
 
-    // A read at A1-A0 = a % 4.
+    // A read at A1-A0 of a.
     pub fn read(mut self, a: u8) -> Got
         ensures { λ r. ⌜ r ≡ readsOf self a ⌝ }
     {
-        let port = a % 4;
+        let port = a % Timer::PORTS;
         if port == Timer::CONTROL {
             return Got {
                 status: 2,

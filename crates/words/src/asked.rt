@@ -1,4 +1,5 @@
 // Which sentence says what a record asks for.
+
 // By the facts of a record and of the board before it.
 pub fn sentence(f: [u8; 16]) -> u8 {
     match f[0] {

@@ -1,5 +1,6 @@
 use borrow.Author.Tests.{eq-eqb, le-leb, lt-leb, ne-eqb}
-use Rattle.tape.specs.Records.{laterAsked}
+use Rattle.tape.specs.Records.{decodeOf}
+use Rattle.tape.proofs.Decodes.{unknown}
 use borrow.Author.Needs.{needs}
 use Rattle.tape.proofs.decode_later.Statement.{statement}
 use Rattle.tape.proofs.decode_later.Tie as tie
@@ -20,13 +21,13 @@ is-zero-from-1-requires c κs = search needs
 
 -- src/lib.rt:220:13
 returns : tie.Need-returns
-unfolding laterAsked
-returns c = rw (eq-eqb _ _ (c .before .before .if1 .taken), ← c .before .is-zero-from-1 .ensures, c .if2 .taken)
+unfolding decodeOf
+returns c = rw (c .before .before .if1 .taken, ← c .before .is-zero-from-1 .ensures, c .if2 .taken)
 
 -- src/lib.rt:222:9
 returns-2 : tie.Need-returns-2
-unfolding laterAsked
-returns-2 c = rw (eq-eqb _ _ (c .before .before .if1 .taken), ← c .before .is-zero-from-1 .ensures, c .if2 .left)
+unfolding decodeOf
+returns-2 c = rw (c .before .before .if1 .taken, ← c .before .is-zero-from-1 .ensures, c .if2 .left)
 
 -- src/lib.rt:225:12
 is-zero-to-3-requires : tie.Need-is-zero-to-3-requires
@@ -38,18 +39,18 @@ pulses-requires c κs = search needs
 
 -- src/lib.rt:228:17
 returns-3 : tie.Need-returns-3
-unfolding laterAsked
-returns-3 c = rw (ne-eqb _ _ (c .before .before .before .before .before .if1 .left), eq-eqb _ _ (c .before .before .before .before .if3 .taken), ← c .before .before .before .is-zero-to-3 .ensures, c .before .before .if4 .taken, ← c .before .pulses .ensures, le-leb _ _ (c .if5 .taken))
+unfolding decodeOf
+returns-3 c = rw (c .before .before .before .before .if3 .taken, ← c .before .before .before .is-zero-to-3 .ensures, c .before .before .if4 .taken, ← c .before .pulses .ensures, le-leb _ _ (c .if5 .taken))
 
 -- src/lib.rt:230:13
 returns-4 : tie.Need-returns-4
-unfolding laterAsked
-returns-4 c = rw (ne-eqb _ _ (c .before .before .before .before .before .if1 .left), eq-eqb _ _ (c .before .before .before .before .if3 .taken), ← c .before .before .before .is-zero-to-3 .ensures, c .before .before .if4 .taken, ← c .before .pulses .ensures, lt-leb _ _ (c .if5 .left))
+unfolding decodeOf
+returns-4 c = rw (c .before .before .before .before .if3 .taken, ← c .before .before .before .is-zero-to-3 .ensures, c .before .before .if4 .taken, ← c .before .pulses .ensures, lt-leb _ _ (c .if5 .left))
 
 -- src/lib.rt:232:9
 returns-5 : tie.Need-returns-5
-unfolding laterAsked
-returns-5 c = rw (ne-eqb _ _ (c .before .before .before .if1 .left), eq-eqb _ _ (c .before .before .if3 .taken), ← c .before .is-zero-to-3 .ensures, c .if4 .left)
+unfolding decodeOf
+returns-5 c = rw (c .before .before .if3 .taken, ← c .before .is-zero-to-3 .ensures, c .if4 .left)
 
 -- src/lib.rt:235:12
 is-zero-from-3-requires : tie.Need-is-zero-from-3-requires
@@ -69,23 +70,22 @@ array-read-t29 c = search needs
 
 -- src/lib.rt:237:17
 returns-6 : tie.Need-returns-6
-unfolding laterAsked
-returns-6 c = rw (ne-eqb _ _ (c .before .before .before .before .before .if1 .left), ne-eqb _ _ (c .before .before .before .before .if3 .left), eq-eqb _ _ (c .before .before .before .if6 .taken), ← c .before .before .is-zero-from-3 .ensures, c .before .if7 .taken, le-leb _ _ (c .if8 .taken))
+unfolding decodeOf
+returns-6 c = rw (c .before .before .before .if6 .taken, ← c .before .before .is-zero-from-3 .ensures, c .before .if7 .taken, le-leb _ _ (c .if8 .taken))
 
 -- src/lib.rt:239:13
 returns-7 : tie.Need-returns-7
-unfolding laterAsked
-returns-7 c = rw (ne-eqb _ _ (c .before .before .before .before .before .if1 .left), ne-eqb _ _ (c .before .before .before .before .if3 .left), eq-eqb _ _ (c .before .before .before .if6 .taken), ← c .before .before .is-zero-from-3 .ensures, c .before .if7 .taken, lt-leb _ _ (c .if8 .left))
+unfolding decodeOf
+returns-7 c = rw (c .before .before .before .if6 .taken, ← c .before .before .is-zero-from-3 .ensures, c .before .if7 .taken, lt-leb _ _ (c .if8 .left))
 
 -- src/lib.rt:241:9
 returns-8 : tie.Need-returns-8
-unfolding laterAsked
-returns-8 c = rw (ne-eqb _ _ (c .before .before .before .before .if1 .left), ne-eqb _ _ (c .before .before .before .if3 .left), eq-eqb _ _ (c .before .before .if6 .taken), ← c .before .is-zero-from-3 .ensures, c .if7 .left)
+unfolding decodeOf
+returns-8 c = rw (c .before .before .if6 .taken, ← c .before .is-zero-from-3 .ensures, c .if7 .left)
 
 -- src/lib.rt:214:1
 returns-9 : tie.Need-returns-9
-unfolding laterAsked
-returns-9 c = rw (ne-eqb _ _ (c .before .before .if1 .left), ne-eqb _ _ (c .before .if3 .left), ne-eqb _ _ (c .if6 .left))
+returns-9 c = rw (unknown (c .before .before .before .args .t1) (c .before .before .if1 .left) (c .before .if3 .left) (c .if6 .left) (search needs))
 
 pub decode-later-spec : {M : Type 1} → statement M
 decode-later-spec =

@@ -1,6 +1,6 @@
 use borrow.Author.Needs.{needs}
 use Rattle.tape.proofs.Ports.{readable-is}
-use borrow.Author.Tests.{eq-eqb, le-ltb, lt-ltb, ne-eqb}
+use borrow.Author.Tests.{eq-eqb, le-leb, le-ltb, lt-leb, lt-ltb, ne-eqb}
 use Rattle.tape.proofs.is_readable.Statement.{statement}
 use Rattle.tape.proofs.is_readable.Tie as tie
 use Rattle.tape.proofs.is_readable.Reads as reads
@@ -20,15 +20,15 @@ returns-3 c = rw (readable-is (c .before .before .before .args .port) (search ne
 
 -- src/lib.rt:135:9
 returns-4 : tie.Need-returns-4
-returns-4 c = rw (readable-is (c .before .before .before .before .args .port) (search needs), le-ltb _ _ (c .before .before .before .if1 .left), le-ltb _ _ (c .before .before .if2 .left), le-ltb _ _ (c .before .if3 .left), lt-ltb _ _ (c .if4 .taken))
+returns-4 c = rw (readable-is (c .before .before .before .before .args .port) (search needs), le-ltb _ _ (c .before .before .before .if1 .left), le-ltb _ _ (c .before .before .if2 .left), le-ltb _ _ (c .before .if3 .left), le-leb _ _ (c .if4 .taken))
 
 -- src/lib.rt:138:9
 returns-5 : tie.Need-returns-5
-returns-5 c = rw (readable-is (c .before .before .before .before .before .args .port) (search needs), le-ltb _ _ (c .before .before .before .before .if1 .left), le-ltb _ _ (c .before .before .before .if2 .left), le-ltb _ _ (c .before .before .if3 .left), le-ltb _ _ (c .before .if4 .left), eq-eqb _ _ (c .if5 .taken))
+returns-5 c = rw (readable-is (c .before .before .before .before .before .args .port) (search needs), le-ltb _ _ (c .before .before .before .before .if1 .left), le-ltb _ _ (c .before .before .before .if2 .left), le-ltb _ _ (c .before .before .if3 .left), lt-leb _ _ (c .before .if4 .left), eq-eqb _ _ (c .if5 .taken))
 
 -- src/lib.rt:122:1
 returns-6 : tie.Need-returns-6
-returns-6 c = rw (readable-is (c .before .before .before .before .before .args .port) (search needs), le-ltb _ _ (c .before .before .before .before .if1 .left), le-ltb _ _ (c .before .before .before .if2 .left), le-ltb _ _ (c .before .before .if3 .left), le-ltb _ _ (c .before .if4 .left), ne-eqb _ _ (c .if5 .left))
+returns-6 c = rw (readable-is (c .before .before .before .before .before .args .port) (search needs), le-ltb _ _ (c .before .before .before .before .if1 .left), le-ltb _ _ (c .before .before .before .if2 .left), le-ltb _ _ (c .before .before .if3 .left), lt-leb _ _ (c .before .if4 .left), ne-eqb _ _ (c .if5 .left))
 
 pub is-readable-spec : {M : Type 1} → statement M
 is-readable-spec = tie.close (tie.spec returns returns-2 returns-3 returns-4 returns-5 returns-6)

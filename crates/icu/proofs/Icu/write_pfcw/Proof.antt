@@ -1,4 +1,8 @@
-use Rattle.icu.specs.Words.{pfcw}
+use mathlib.Core.Path.{_≡_}
+use Prim.Native.Nat.{_/_, _<_}
+use native.Mathlib.Omega.{arith}
+use Rattle.bits.specs.Bits.{bitOf}
+use Rattle.icu.proofs.Command.{pfcw-is}
 use borrow.Author.Tests.{ne-eqb}
 use borrow.Author.Needs.{needs}
 use Rattle.icu.proofs.Icu.write_pfcw.Statement.{statement}
@@ -10,8 +14,8 @@ use Rattle.icu.proofs.Icu.finish.Reads as finish-reads
 
 -- src/lib.rt:205:17
 returns : tie.Need-returns
-unfolding pfcw
-returns c = rw (c .match .keys1)
+unfolding bitOf
+returns c = rw (pfcw-is _ _, c .match .keys1)
 
 -- src/lib.rt:207:18
 finish-requires : tie.Need-finish-requires
@@ -23,13 +27,13 @@ without-requires c κs = search needs
 
 -- src/lib.rt:211:17
 returns-2 : tie.Need-returns-2
-unfolding pfcw
-returns-2 c = rw (c .without .ensures, c .before .match .keys3)
+unfolding bitOf
+returns-2 c = rw (c .without .ensures, pfcw-is _ _, c .before .match .keys3)
 
 -- src/lib.rt:215:17
 returns-3 : tie.Need-returns-3
-unfolding pfcw
-returns-3 c = rw (c .match .keys4)
+unfolding bitOf
+returns-3 c = rw (pfcw-is _ _, c .match .keys4)
 
 -- src/lib.rt:217:18
 finish-requires-2 : tie.Need-finish-requires-2
@@ -37,8 +41,8 @@ finish-requires-2 c κs = search needs
 
 -- src/lib.rt:220:17
 returns-4 : tie.Need-returns-4
-unfolding pfcw
-returns-4 c = rw (c .match .keys6)
+unfolding bitOf
+returns-4 c = rw (pfcw-is _ _, c .match .keys6)
 
 -- src/lib.rt:223:21
 without-requires-2 : tie.Need-without-requires-2
@@ -46,23 +50,29 @@ without-requires-2 c κs = search needs
 
 -- src/lib.rt:226:17
 returns-5 : tie.Need-returns-5
-unfolding pfcw
-returns-5 c = rw (c .without2 .ensures, c .before .match .keys7)
+unfolding bitOf
+returns-5 c = rw (c .without2 .ensures, pfcw-is _ _, c .before .match .keys7)
 
 -- src/lib.rt:197:5
 returns-6 : tie.Need-returns-6
-unfolding pfcw
-returns-6 c = rw (c .finish .ensures, c .before .match .keys2)
+unfolding bitOf
+returns-6 c = rw (c .finish .ensures, pfcw-is _ _, c .before .match .keys2)
 
 -- src/lib.rt:197:5
 returns-7 : tie.Need-returns-7
-unfolding pfcw
-returns-7 c = rw (c .finish2 .ensures, c .before .match .keys5)
+unfolding bitOf
+returns-7 c = rw (c .finish2 .ensures, pfcw-is _ _, c .before .match .keys5)
 
 -- src/lib.rt:197:5
 returns-8 : tie.Need-returns-8
-unfolding pfcw
-returns-8 c = rw (ne-eqb _ _ (c .match .rest .0 .0 .0 .0 .0 .0 .1), ne-eqb _ _ (c .match .rest .0 .0 .0 .0 .0 .1), ne-eqb _ _ (c .match .rest .0 .0 .0 .0 .1), ne-eqb _ _ (c .match .rest .0 .0 .0 .1), ne-eqb _ _ (c .match .rest .0 .0 .1), ne-eqb _ _ (c .match .rest .0 .1), ne-eqb _ _ (c .match .rest .1))
+unfolding bitOf
+returns-8 c =
+    let x = c .before .args .x in
+    let r = c .match .rest in
+    let h : x < 256 = search needs in
+    let l : x / 32 < 5 = omega (arith, h, r .0 .0 .1, r .0 .1, r .1) in
+    let e : x / 32 ≡ 2 = omega (arith, l, r .0 .0 .0 .0 .0 .0 .1, r .0 .0 .0 .0 .0 .1, r .0 .0 .0 .0 .1, r .0 .0 .0 .1) in
+    rw (pfcw-is _ x, e)
 
 pub write-pfcw-spec : {M : Type 1} → statement M
 write-pfcw-spec =
