@@ -2,7 +2,7 @@
 -- accepted write to the DMA chip.
 --
 -- Words.antt has the words: answersIn, unitsOf, lastAt (what answers report, by their bytes), placeOf, mayWrite (places and ranges),
--- Calm (no reset, no accepted write to the chip), Reached and Further.
+-- Calm (no reset, no accepted write to the chip) and Further; Reached.antt has Reached.
 use mathlib.Core.Path.{_≡_}
 use mathlib.Core.List.{List}
 use mathlib.Core.Bool.{true, false}
@@ -10,25 +10,19 @@ use Prim.Native.Nat.{ℕ, _+_, _≤_, _<_}
 use lib.ListN.{getD, length}
 use Rattle.dma.specs.declared.Dma.{Dma}
 use Rattle.dma.specs.Fields.{chan}
-use Rattle.dma.specs.Cycle.{down, auto, writes}
 use Rattle.board.specs.declared.Board.{Board}
-use Rattle.intake.specs.Ranges.{inRange}
 use Rattle.board.specs.Records.{after}
-use Rattle.promises.specs.Words.{answersIn, unitsOf, lastAt, placeOf, mayWrite, Calm, Reached, Further, Typed}
-use Rattle.promises.specs.Sound.{Sound}
-use Rattle.promises.specs.Seen.{Trace}
-use Rattle.promises.specs.Runs.{traced, calls-traced, sound-of, reached-sound}
-use Rattle.promises.specs.Moves as the-moves
-use Rattle.promises.specs.Ranges as the-ranges
-use Rattle.promises.specs.Bytes as the-bytes
+use Rattle.intake.specs.Ranges.{inRange}
+use Rattle.promises.specs.Words.{answersIn, unitsOf, lastAt, placeOf, writes, auto, down, mayWrite, Calm, Further}
+use Rattle.promises.specs.Reached.{Reached, Typed}
 
 -- What is promised of a run: from the DMA chip d and the memory m, with some answers, to the memory m′.
 pub record Bounded (d : Dma) (m : List ℕ) (answers : List (List ℕ)) (m′ : List ℕ) : Type 0 where
   -- Each channel k without autoinitialize moves at most its current count plus one units.
-  -- Not so: a board that goes on after the end; one that serves a channel again though its end has masked it.
+  -- Not so: a board that goes on after the end; one that serves a channel again though the end of its count has masked it.
   pub few : (k : ℕ) → auto (chan d k) ≡ false → length (unitsOf k answers) ≤ chan d k .current .count + 1
   -- The first of them is at its current address, each further one a place on in its direction, modulo 16,777,216. (Unit i here is
-  -- the demand's k-th, with i = k - 1.)
+  -- the demand's unit number i + 1.)
   -- Not so: a board whose address wraps at 65,536; one that always counts upwards.
   pub places : (k : ℕ)
       → auto (chan d k) ≡ false
@@ -47,29 +41,15 @@ pub record Bounded (d : Dma) (m : List ℕ) (answers : List (List ℕ)) (m′ : 
   -- The memory is as long as before.
   pub long : length m′ ≡ length m
 
-bounded : {d : Dma} {m : List ℕ} {answers : List (List ℕ)} {e : Dma} {m′ : List ℕ} → Sound d → Trace d m answers e m′ → Bounded d m answers m′
-bounded g t =
-    record {
-      few = λ k h. the-moves.moves t k g h .0;
-      places = λ k h. the-moves.moves t k g h .1;
-      others = λ p f. the-ranges.keeps t p g f;
-      ends = λ p l. the-bytes.ends-as t p l;
-      long = the-bytes.long t;
-    }
-
--- It holds of any board reached, any bytes s, and any number n of records of them.
-pub demand-3 : {b : Board} → Reached b → (m s : List ℕ) (n : ℕ) → Calm b m s n
-    → Bounded (b .dma) m (answersIn (after b m s n .answers) n) (after b m s n .memory)
-demand-3 {b} r m s n c = bounded (reached-sound r) (traced b m s n (reached-sound r) c)
-
--- It holds of a board that no tape reaches, too, if only each field is in its range.
-pub in-range : (b : Board) → inRange b ≡ true → Typed b → (m s : List ℕ) (n : ℕ) → Calm b m s n
-    → Bounded (b .dma) m (answersIn (after b m s n .answers) n) (after b m s n .memory)
-in-range b h t m s n c = bounded (sound-of b t h) (traced b m s n (sound-of b t h) c)
-
--- And so for any number of calls, in which the tape may be cut anywhere: the lent memory after the last of them, and the answers in their
--- buffers, one buffer after another. The bytes that a call executes are those kept from the call before, and then its tape.
-pub of-calls : {b : Board} → Reached b → {m : List ℕ} {answers : List (List ℕ)} {m′ : List ℕ}
-    → Further b m answers m′
-    → Bounded (b .dma) m answers m′
-of-calls r f = bounded (reached-sound r) (calls-traced f (reached-sound r) .1)
+pub record Demand3 : Type 0 where
+  -- It holds of any board reached, any bytes s, and any number n of records of them.
+  pub demand-3 : {b : Board} → Reached b → (m s : List ℕ) (n : ℕ) → Calm b m s n
+      → Bounded (b .dma) m (answersIn (after b m s n .answers) n) (after b m s n .memory)
+  -- It holds of a board that no tape reaches, too, if only each field is in its range and no wider than its type.
+  pub in-range : (b : Board) → inRange b ≡ true → Typed b → (m s : List ℕ) (n : ℕ) → Calm b m s n
+      → Bounded (b .dma) m (answersIn (after b m s n .answers) n) (after b m s n .memory)
+  -- And so for any number of calls, in which the tape may be cut anywhere: the lent memory after the last of them, and the answers in
+  -- their buffers, one buffer after another. The bytes that a call executes are those kept from the call before, and then its tape.
+  pub of-calls : {b : Board} → Reached b → {m : List ℕ} {answers : List (List ℕ)} {m′ : List ℕ}
+      → Further b m answers m′
+      → Bounded (b .dma) m answers m′

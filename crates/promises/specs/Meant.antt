@@ -1,72 +1,108 @@
--- What the words of demand 3 mean, held against second readings.
-use mathlib.Core.Path.{_≡_, refl, ap, _∙_}
+-- What some words mean, held against second readings: the places, ranges and last answers of demand 3; INT, and the level that an acknowledge
+-- takes; the channel that is granted; a reset.
+use mathlib.Core.Path.{_≡_}
 use mathlib.Core.List.{List, [], _∷_, _++_}
-use mathlib.Core.Bool.{Bool, true, false}
-use Prim.Native.Nat.{ℕ, suc, _≤_, _<_}
-use native.Mathlib.Omega.{arith}
-use lib.Dec.{ltb, leb}
-use borrow.Author.Tests.{ltb-true, leb-true, lt-ltb, le-leb}
-use Rattle.bits.specs.Choice.{if_then_else_}
+use mathlib.Core.Bool.{Bool, true, false, not}
+use Prim.Native.Nat.{ℕ, suc, _+_, _*_, _/_, _≤_, _<_}
+use mathlib.Core.Logic.{_↔_, _⊎_}
+use lib.Dec.{eqb}
+use lib.ListN.{getD}
+use Rattle.bits.specs.Choice.{if_then_else_, _and_, _or_}
+use Rattle.bits.specs.Bits.{bitOf}
 use Rattle.dma.specs.declared.Span.{Span}
 use Rattle.dma.specs.Cycle.{stepped}
-use Rattle.promises.specs.Logic.{both-left, both-right}
-use Rattle.promises.specs.Words.{unitAt, lastAt, dataIn, placeOf, distance, inside}
+use Rattle.icu.specs.Service.{servedOf}
+use Rattle.board.specs.declared.Board.{Board}
+use Rattle.board.specs.Wiring.{freshOf, icu-is, int}
+use Rattle.board.specs.Step.{stepOf, stepMemory}
+use Rattle.promises.specs.Records.{resetting, acknowledging, cyclingWith}
+use Rattle.promises.specs.Words.{unitAt, lastAt, dataIn, placeOf, inside, before, Highest, askedFor, inService, asks, Foremost}
+use Rattle.promises.specs.Reached.{Reached}
 
--- The place 0 places on is the address itself, and each further place is the one to which the chip steps from the place before.
-pub place-zero : (a : ℕ) (falls : Bool) → a < 16777216 → placeOf a falls 0 ≡ a
-place-zero a true h = omega arith
-place-zero a false h = omega arith
-
-pub place-suc : (a i : ℕ) (falls : Bool) → a < 16777216 → i < 65536 → placeOf a falls (suc i) ≡ stepped (placeOf a falls i) falls
-place-suc a i true h l = omega arith
-place-suc a i false h l = omega arith
-
--- The range of a span is the places 0 to count on, which are count plus one, and no other byte.
-far-place : (a i : ℕ) (falls : Bool) → a < 16777216 → i < 65536 → distance (placeOf a falls i) a falls ≡ i
-far-place a i true h l = omega arith
-far-place a i false h l = omega arith
-
-small-place : (a i : ℕ) (falls : Bool) → placeOf a falls i < 16777216
-small-place a i true = omega arith
-small-place a i false = omega arith
-
-place-far : (p a : ℕ) (falls : Bool) → a < 16777216 → p < 16777216 → placeOf a falls (distance p a falls) ≡ p
-place-far p a true h l = omega arith
-place-far p a false h l = omega arith
-
-module _ (s : Span) (falls : Bool) (h : s .address < 16777216) where
-  pub range-has : s .count < 65536 → (i : ℕ) → i ≤ s .count → inside (placeOf (s .address) falls i) s falls ≡ true
-  unfolding inside
-  range-has l i q =
-      rw (
-        lt-ltb (placeOf (s .address) falls i) 16777216 (small-place (s .address) i falls),
-        far-place (s .address) i falls h (omega arith),
-      )
-      (le-leb i (s .count) q)
-
-  pub range-only : (p : ℕ) → inside p s falls ≡ true → (i : ℕ) × (i ≤ s .count) × (placeOf (s .address) falls i ≡ p)
-  unfolding inside
-  range-only p q = (
-    distance p (s .address) falls,
-    leb-true (distance p (s .address) falls) (s .count) (both-right (ltb p 16777216) (leb (distance p (s .address) falls) (s .count)) q),
-    place-far p (s .address) falls h (ltb-true p 16777216 (both-left (ltb p 16777216) (leb (distance p (s .address) falls) (s .count)) q)),
-  )
-
--- The last answer that reports a unit at p by a channel of w: if none does, the byte is as it was; if one does and none after it, the byte
--- is that one's data.
+-- No answer reports a unit at p by a channel of w.
 pub data None (w : ℕ → Bool) (p : ℕ) : List (List ℕ) → Type 0 where
   empty : None w p []
   misses : {a : List ℕ} {more : List (List ℕ)} → unitAt w p a ≡ false → None w p more → None w p (a ∷ more)
 
-pub last-none : {w : ℕ → Bool} {p : ℕ} {got : List (List ℕ)} → None w p got → (x : ℕ) → lastAt w p got x ≡ x
-unfolding lastAt
-last-none empty x = refl
-last-none (misses h n) x = rw h (last-none n x)
+-- An acknowledge takes level n: its edge request goes, and its ISR bit is set, but not in self-FI, where rotation makes it lowest. Nothing else of
+-- the board changes. In vector mode the data is IW2's upper five bits and n; in CALL mode the payload is CDH (205), the low address byte, of A7-A5 and 4 n
+-- with AG4=1 (D2 of IW1) or A7-A6 and 8 n with AG4=0, and IW2.
+pub record Takes (b : Board) (m : List ℕ) (n : ℕ) : Type 0 where
+  pub status : getD (stepOf b acknowledging m .answer) 0 0 ≡ 0
+  pub board : stepOf b acknowledging m .board ≡ icu-is (servedOf (b .icu) n) b
+  pub edges : (k : ℕ) → k < 8 → bitOf (stepOf b acknowledging m .board .icu .edges) k ≡ (bitOf (b .icu .edges) k and not (eqb k n))
+  pub isr : (k : ℕ) → k < 8
+      → bitOf (stepOf b acknowledging m .board .icu .isr) k ≡ (bitOf (b .icu .isr) k or (not (b .icu .sfi) and eqb k n))
+  pub lowest : stepOf b acknowledging m .board .icu .lowest ≡ (if b .icu .sfi and b .icu .rotation then n else b .icu .lowest)
+  pub vector : b .icu .vector ≡ true → getD (stepOf b acknowledging m .answer) 2 0 ≡ b .icu .iw2 / 8 * 8 + n
+  pub call : b .icu .vector ≡ false
+      → (getD (stepOf b acknowledging m .answer) 4 0 ≡ 205)
+      × (getD (stepOf b acknowledging m .answer) 5 0
+      ≡ (if bitOf (b .icu .iw1) 2 then b .icu .iw1 / 32 * 32 + n * 4 else b .icu .iw1 / 64 * 64 + n * 8))
+      × (getD (stepOf b acknowledging m .answer) 6 0 ≡ b .icu .iw2)
 
-pub last-found : (w : ℕ → Bool) (p x : ℕ) (before : List (List ℕ)) (a : List ℕ) (later : List (List ℕ))
-    → unitAt w p a ≡ true
-    → None w p later
-    → lastAt w p (before ++ a ∷ later) x ≡ dataIn a
-unfolding lastAt
-last-found w p x [] a later h n = last-none n (if unitAt w p a then dataIn a else x) ∙ ap (λ (q : Bool). if q then dataIn a else x) h
-last-found w p x (z ∷ before) a later h n = last-found w p (if unitAt w p z then dataIn z else x) before a later h n
+-- A DMA cycle with END e and the byte x grants the bus to channel n; nothing moves, and END is no end.
+pub record Grants (b : Board) (e x : ℕ) (m : List ℕ) (n : ℕ) : Type 0 where
+  pub kind : getD (stepOf b (cyclingWith e x) m .answer) 4 0 ≡ 1
+  pub channel : getD (stepOf b (cyclingWith e x) m .answer) 5 0 ≡ n
+  pub serving : stepOf b (cyclingWith e x) m .board .dma .serving ≡ true
+  pub served : stepOf b (cyclingWith e x) m .board .dma .channel ≡ n
+  pub channels : stepOf b (cyclingWith e x) m .board .dma .channels ≡ b .dma .channels
+  pub ends : stepOf b (cyclingWith e x) m .board .dma .ends ≡ b .dma .ends
+  pub end : getD (stepOf b (cyclingWith e x) m .answer) 6 0 ≡ 0
+  pub memory : stepMemory b (cyclingWith e x) m ≡ m
+
+-- Some level is asked for that comes before every level in service.
+pub record Outranking (b : Board) : Type 0 where
+  pub level : ℕ
+  pub low : level < 8
+  pub asked : askedFor b level ≡ true
+  pub over : (k : ℕ) → k < 8 → inService b k ≡ true → before (b .icu .lowest) level < before (b .icu .lowest) k
+
+pub record Meant : Type 0 where
+  -- The place 0 places on is the address itself, and each further place is the one to which the chip steps from the place before.
+  pub place-zero : (a : ℕ) (falls : Bool) → a < 16777216 → placeOf a falls 0 ≡ a
+  pub place-suc : (a i : ℕ) (falls : Bool) → a < 16777216 → i < 65536 → placeOf a falls (suc i) ≡ stepped (placeOf a falls i) falls
+  -- No two of 65,536 places in a row are the same. The range of a span is the places 0 to count on, which are count plus one, and no other byte.
+  pub places-differ : (a i j : ℕ) (falls : Bool) → i < 65536 → j < 65536 → placeOf a falls i ≡ placeOf a falls j → i ≡ j
+  pub range-has : (s : Span) (falls : Bool) → s .address < 16777216 → s .count < 65536
+      → (i : ℕ)
+      → i ≤ s .count
+      → inside (placeOf (s .address) falls i) s falls ≡ true
+  pub range-only : (s : Span) (falls : Bool) → s .address < 16777216
+      → (p : ℕ)
+      → inside p s falls ≡ true
+      → (i : ℕ) × (i ≤ s .count) × (placeOf (s .address) falls i ≡ p)
+  -- The last answer that reports a unit at p by a channel of w: if none does, the byte is as it was; if one does and none after it, the
+  -- byte is that one's data.
+  pub last-none : {w : ℕ → Bool} {p : ℕ} {got : List (List ℕ)} → None w p got → (x : ℕ) → lastAt w p got x ≡ x
+  pub last-found : (w : ℕ → Bool) (p x : ℕ) (earlier : List (List ℕ)) (a : List ℕ) (later : List (List ℕ))
+      → unitAt w p a ≡ true
+      → None w p later
+      → lastAt w p (earlier ++ a ∷ later) x ≡ dataIn a
+  -- INT is high exactly if the chip is ready and some level asked for outranks every level in service.
+  -- Not so: a board on which a level outranks itself; one on which a masked level in service does not block those below it.
+  pub int-rule : {b : Board} → Reached b → (int b ≡ true) ↔ ((b .icu .stage ≡ 3) × Outranking b)
+  -- With INT high and the bus free, an acknowledge takes the level that is asked for and that no other one asked for outranks.
+  -- Not so: a board that takes the lowest number, whatever its rank; one that takes a masked level.
+  pub level-taken : {b : Board} → Reached b → (m : List ℕ) → b .dma .serving ≡ false → int b ≡ true
+      → (n : ℕ) × Highest (askedFor b) (b .icu .lowest) n × Takes b m n
+  -- With the bus free, the chip enabled and some channel asking, a cycle grants the bus to the channel that asks and that no other one asking
+  -- outranks, whatever END and the device have.
+  -- Not so: a board that with END grants channel 0, whichever asks; one that goes on from the last served with fixed rank.
+  pub channel-granted : {b : Board} → Reached b → (e x : ℕ) (m : List ℕ) → e < 2 → b .dma .serving ≡ false → b .dma .disabled ≡ false
+      → (k : ℕ) → k < 4 → asks (b .dma) k ≡ true
+      → (n : ℕ) × Foremost (b .dma) n × Grants b e x m n
+  -- With the bus free, and the chip disabled or no channel asking, a cycle does nothing, and says so.
+  -- Not so: a board that grants a masked channel; one that grants while it is disabled.
+  pub nothing-granted : (b : Board) (e x : ℕ) (m : List ℕ) → e < 2 → b .dma .serving ≡ false
+      → (b .dma .disabled ≡ true) ⊎ ((k : ℕ) → k < 4 → asks (b .dma) k ≡ false)
+      → (stepOf b (cyclingWith e x) m .board ≡ b)
+      × (stepMemory b (cyclingWith e x) m ≡ m)
+      × (getD (stepOf b (cyclingWith e x) m .answer) 0 0 ≡ 0)
+      × (getD (stepOf b (cyclingWith e x) m .answer) 4 0 ≡ 0)
+  -- Operation 0 leaves a board as one that was never fed has it, but for the bytes that are kept, and leaves the memory.
+  -- Not so: a board that keeps a mode or a mask; one that clears memory.
+  pub reset-is-fresh : (b : Board) (m : List ℕ)
+      → (stepOf b resetting m .board ≡ record { icu = freshOf .icu; intp = 0; timer = freshOf .timer; dma = freshOf .dma; kept = b .kept })
+      × (stepMemory b resetting m ≡ m)

@@ -1,122 +1,160 @@
--- The table of the status numbers, in words: what each row says of a record r that comes to a board b.
+-- The table of the status numbers, read again: what each row says of a record r that comes to a board b, in the numbers and bits of the
+-- document, and in none of the words of the rules but INT (which Meant.antt reads again). Numbers are decimal here; 10H is 16, 20H is 32,
+-- 30H is 48.
 use mathlib.Core.Bool.{Bool, false, not}
-use mathlib.Core.List.{List}
-use Prim.Native.Nat.{ℕ, _+_, _*_, _%_}
+use mathlib.Core.List.{List, [], _∷_}
+use Prim.Native.Nat.{ℕ, _+_, _*_, _/_, _%_}
 use lib.Dec.{eqb, ltb, leb}
+use lib.ListN.{getD}
 use Rattle.bits.specs.Choice.{if_then_else_, _and_, _or_}
-use Rattle.bits.specs.Bits.{bitOf, maskedOf}
-use Rattle.tape.specs.Records.{byte, unused, icuPort, timerPort, dmaPort, writable, readable, pulseCount}
+use Rattle.bits.specs.Bits.{bitOf}
 use Rattle.icu.specs.declared.Icu.{Icu}
-use Rattle.icu.specs.Words.{ready, setsExceptional}
 use Rattle.timer.specs.declared.Counter.{Counter}
 use Rattle.timer.specs.declared.Timer.{Timer}
-use Rattle.timer.specs.Ports.{SC, RWM, CM, BCD, moded}
 use Rattle.timer.specs.Timer.{at}
-use Rattle.dma.specs.Registers.{unbuiltMode}
 use Rattle.board.specs.declared.Board.{Board}
 use Rattle.board.specs.Wiring.{int}
-use Rattle.board.specs.Operations.{a0}
 
--- The operation, the port or group, and the data.
+-- x is one of some numbers.
+unfoldable pub among : ℕ → List ℕ → Bool
+among x [] = false
+among x (y ∷ rest) = eqb x y or among x rest
+
+-- Byte 0 of a record is the operation. Byte 1 is a port or a group, or END; byte 2 is data or levels.
 abbrev pub op : List ℕ → ℕ
-op r = byte r 0
+op r = getD r 0 0
 
-abbrev pub port : List ℕ → ℕ
-port r = byte r 1
+abbrev pub byte1 : List ℕ → ℕ
+byte1 r = getD r 1 0
 
-abbrev pub datum : List ℕ → ℕ
-datum r = byte r 2
+abbrev pub byte2 : List ℕ → ℕ
+byte2 r = getD r 2 0
 
--- Row 2 is given exactly where this fails: the operation is known, each byte that it does not use is zero, the port is open to it, the
--- group is known and no unused level bit is set, there are at most 65,535 pulses, and END is 0 or 1.
+-- Row 2 is given exactly where `formed` fails: the operation is known, every byte that it does not use is zero, the port is open to it,
+-- the group is known and has the levels, END is 0 or 1, and there are at most 65,535 pulses.
+
+-- Of bytes 1 to 7 the record uses these; the others are zero.
+abbrev pub usedOrZero : List ℕ → List ℕ → ℕ → Bool
+usedOrZero r places i = among i places or eqb (getD r i 0) 0
+
+unfoldable pub uses : List ℕ → List ℕ → Bool
+uses r places =
+    usedOrZero r places 1
+    and usedOrZero r places 2
+    and usedOrZero r places 3
+    and usedOrZero r places 4
+    and usedOrZero r places 5
+    and usedOrZero r places 6
+    and usedOrZero r places 7
+
+-- 00H-01H, 10H-13H and 20H-2FH. Writes: all but 27H (39) and 2BH (43). Reads: all but 13H (19), 20H (32) and 27H.
+abbrev pub toWrite : List ℕ
+toWrite = 0 ∷ 1 ∷ 16 ∷ 17 ∷ 18 ∷ 19 ∷ 32 ∷ 33 ∷ 34 ∷ 35 ∷ 36 ∷ 37 ∷ 38 ∷ 40 ∷ 41 ∷ 42 ∷ 44 ∷ 45 ∷ 46 ∷ 47 ∷ []
+
+abbrev pub toRead : List ℕ
+toRead = 0 ∷ 1 ∷ 16 ∷ 17 ∷ 18 ∷ 33 ∷ 34 ∷ 35 ∷ 36 ∷ 37 ∷ 38 ∷ 40 ∷ 41 ∷ 42 ∷ 43 ∷ 44 ∷ 45 ∷ 46 ∷ 47 ∷ []
+
+-- Group 0 has no bit 0, group 1 the bits 0 to 2, group 2 the bits 0 to 3.
 unfoldable pub levelsFit : ℕ → ℕ → Bool
 levelsFit group levels =
     if eqb group 0 then eqb (levels % 2) 0 else if eqb group 1 then ltb levels 8 else if eqb group 2 then ltb levels 16 else false
 
+-- Bytes 4 to 7, little end first.
+abbrev pub pulses : List ℕ → ℕ
+pulses r = getD r 4 0 + getD r 5 0 * 256 + getD r 6 0 * 65536 + getD r 7 0 * 16777216
+
 unfoldable pub formed : List ℕ → Bool
 formed r =
-    if eqb (op r) 0 then unused r 1 7
-    else if eqb (op r) 1 then unused r 3 5 and writable (port r)
-    else if eqb (op r) 2 then unused r 2 6 and readable (port r)
-    else if eqb (op r) 3 then unused r 3 5 and levelsFit (byte r 1) (byte r 2)
-    else if eqb (op r) 4 then unused r 1 7
-    else if eqb (op r) 5 then unused r 1 3 and leb (pulseCount r) 65535
-    else if eqb (op r) 6 then unused r 3 5 and leb (byte r 1) 1
+    if eqb (op r) 0 then uses r []
+    else if eqb (op r) 1 then uses r (1 ∷ 2 ∷ []) and among (byte1 r) toWrite
+    else if eqb (op r) 2 then uses r (1 ∷ []) and among (byte1 r) toRead
+    else if eqb (op r) 3 then uses r (1 ∷ 2 ∷ []) and levelsFit (byte1 r) (byte2 r)
+    else if eqb (op r) 4 then uses r []
+    else if eqb (op r) 5 then uses r (4 ∷ 5 ∷ 6 ∷ 7 ∷ []) and leb (pulses r) 65535
+    else if eqb (op r) 6 then uses r (1 ∷ 2 ∷ []) and leb (byte1 r) 1
     else false
 
 -- Row 1: a write, a read or an acknowledge while DMA serves a channel.
 unfoldable pub held : Board → List ℕ → Bool
 held b r = b .dma .serving and (eqb (op r) 1 or eqb (op r) 2 or eqb (op r) 4)
 
--- Row 3, a word for the interrupt chip: until it is ready, a write at A0=0 with D4=0; before the first IW1, a write at A0=1.
-abbrev pub started : Icu → Bool
-started c = eqb (c .stage) 1 or eqb (c .stage) 2 or ready c
+-- Row 3, out of turn. The interrupt chip's stages: 1 awaits IW2, 2 awaits IW4, 3 is ready. Until it is ready its reads, an acknowledge and writes at
+-- 00H with D4=0 are out of turn; before the first IW1, in none of the three, writes at 01H too.
+abbrev pub unready : Icu → Bool
+unready c = not (eqb (c .stage) 3)
 
-abbrev pub earlyWord : Icu → Bool → ℕ → Bool
-earlyWord c high x = if high then not (started c) else not (bitOf x 4) and not (ready c)
+abbrev pub unstarted : Icu → Bool
+unstarted c = not (among (c .stage) (1 ∷ 2 ∷ 3 ∷ []))
 
--- Row 3, the timer: a counter with no mode set.
+-- So is latching, reading or writing counter n with no mode set. The control word, at 13H, names a counter in D7-D6 (11 is none), and latches it with 00 in D5-D4.
 abbrev pub modeless : Timer → ℕ → Bool
-modeless t n = not (moded (at t n))
+modeless t n = not (among (at t n .mode) (0 ∷ 2 ∷ []))
 
--- Latching, by a control word that names one of three counters; and writing.
-abbrev pub earlyCount : Timer → ℕ → ℕ → Bool
-earlyCount t a x =
-    if eqb a 3 then not (eqb (SC x) 3) and eqb (RWM x) 0 and modeless t (SC x) else modeless t a
+abbrev pub latchesModeless : Timer → ℕ → Bool
+latchesModeless t x = not (eqb (x / 64) 3) and eqb (x / 16 % 4) 0 and modeless t (x / 64)
 
--- Row 3: out of turn. The interrupt chip's reads and acknowledge wait until it is ready too.
 unfoldable pub outOfTurn : Board → List ℕ → Bool
 outOfTurn b r =
     if eqb (op r) 1 then
-    (if icuPort (port r) then earlyWord (b .icu) (a0 (port r)) (datum r)
-    else timerPort (port r) and earlyCount (b .timer) (port r % 4) (datum r))
+    (if eqb (byte1 r) 0 then not (bitOf (byte2 r) 4) and unready (b .icu)
+    else if eqb (byte1 r) 1 then unstarted (b .icu)
+    else if eqb (byte1 r) 16 then modeless (b .timer) 0
+    else if eqb (byte1 r) 17 then modeless (b .timer) 1
+    else if eqb (byte1 r) 18 then modeless (b .timer) 2
+    else eqb (byte1 r) 19 and latchesModeless (b .timer) (byte2 r))
     else if eqb (op r) 2 then
-    (if icuPort (port r) then not (ready (b .icu)) else timerPort (port r) and modeless (b .timer) (port r % 4))
-    else eqb (op r) 4 and not (ready (b .icu))
+    (if among (byte1 r) (0 ∷ 1 ∷ []) then unready (b .icu)
+    else if eqb (byte1 r) 16 then modeless (b .timer) 0
+    else if eqb (byte1 r) 17 then modeless (b .timer) 1
+    else eqb (byte1 r) 18 and modeless (b .timer) 2)
+    else eqb (op r) 4 and unready (b .icu)
 
--- Row 4, the interrupt chip at A0=0: IW1 with D1=0; MCW with POL=1, or with SNW=1 and EXCN=1.
-abbrev pub unbuiltWord : Bool → ℕ → Bool
-unbuiltWord high x =
-    not high and (if bitOf x 4 then not (bitOf x 1) else bitOf x 3 and (bitOf x 2 or setsExceptional x))
+-- Row 4, not built. At 00H: IW1 (D4=1) with D1=0; MCW (D4=0, D3=1) with POL=1 (D2), or with SNW=1 (D6, which the sheet calls SNM) and EXCN=1 (D5).
+abbrev pub unbuiltWord : ℕ → Bool
+unbuiltWord x = if bitOf x 4 then not (bitOf x 1) else bitOf x 3 and (bitOf x 2 or (bitOf x 6 and bitOf x 5))
 
--- Row 4, the timer's control word: counter 11; otherwise, unless a latch, BCD, or a mode other than 000 and x10.
+-- At 13H: counter 11 in D7-D6. Otherwise, unless D5-D4 are 00, which is a latch: BCD in D0, or a mode in D3-D1 other than 000, 010 and 110.
 abbrev pub unbuiltControl : ℕ → Bool
 unbuiltControl x =
-    eqb (SC x) 3 or (not (eqb (RWM x) 0) and (eqb (BCD x) 1 or (not (eqb (CM x) 0) and not (eqb (CM x % 4) 2))))
+    eqb (x / 64) 3 or (not (eqb (x / 16 % 4) 0) and (eqb (x % 2) 1 or not (among (x / 2 % 8) (0 ∷ 2 ∷ 6 ∷ []))))
 
--- Row 4, the DMA chip: register 0 with D1=1; other bits than D4 and D2 in 8, any in 9; in A mode 11, direction 11, D1 or D0; C, D and E.
-abbrev pub unbuiltRegister : ℕ → ℕ → Bool
-unbuiltRegister n x =
-    if eqb n 0 then bitOf x 1
-    else if eqb n 8 then not (eqb (maskedOf x 20) 0)
-    else if eqb n 9 then not (eqb x 0)
-    else if eqb n 10 then unbuiltMode x
-    else leb 12 n and ltb n 15
+-- At 2AH: mode 11 in D7-D6, direction 11 in D3-D2, D1 or D0. At 28H: any bit but D4 and D2.
+abbrev pub unbuiltMode : ℕ → Bool
+unbuiltMode x = eqb (x / 64) 3 or eqb (x / 4 % 4) 3 or not (eqb (x % 4) 0)
 
--- Row 4: not built.
-unfoldable pub notBuilt : Board → List ℕ → Bool
-notBuilt b r =
+abbrev pub unbuiltDeviceControl : ℕ → Bool
+unbuiltDeviceControl x = bitOf x 0 or bitOf x 1 or bitOf x 3 or bitOf x 5 or bitOf x 6 or bitOf x 7
+
+-- 20H with D1=1; 29H not zero; any use of 2CH, 2DH and 2EH.
+unfoldable pub notBuilt : List ℕ → Bool
+notBuilt r =
     if eqb (op r) 1 then
-    (if icuPort (port r) then unbuiltWord (a0 (port r)) (datum r)
-    else if timerPort (port r) then eqb (port r % 4) 3 and unbuiltControl (datum r)
-    else unbuiltRegister (port r % 16) (datum r))
-    else eqb (op r) 2 and dmaPort (port r) and leb 12 (port r % 16) and ltb (port r % 16) 15
+    (if eqb (byte1 r) 0 then unbuiltWord (byte2 r)
+    else if eqb (byte1 r) 19 then unbuiltControl (byte2 r)
+    else if eqb (byte1 r) 32 then bitOf (byte2 r) 1
+    else if eqb (byte1 r) 40 then unbuiltDeviceControl (byte2 r)
+    else if eqb (byte1 r) 41 then not (eqb (byte2 r) 0)
+    else if eqb (byte1 r) 42 then unbuiltMode (byte2 r)
+    else among (byte1 r) (44 ∷ 45 ∷ 46 ∷ []))
+    else eqb (op r) 2 and among (byte1 r) (44 ∷ 45 ∷ 46 ∷ [])
 
 -- Row 5: an acknowledge with INT low.
 unfoldable pub intLow : Board → List ℕ → Bool
 intLow b r = eqb (op r) 4 and not (int b)
 
--- Row 6: a count byte that completes a count of 1 in mode 2.
+-- Row 6: a count byte x that completes a count of 1 in mode 2: as the one byte of a low-byte count (format 1), or as the high byte of two (a format that is
+-- neither 1, low, nor 2, high), with the low one kept. A high-byte count is a multiple of 256, and never 1.
 abbrev pub completesOne : Counter → ℕ → Bool
 completesOne c x =
     eqb (c .mode) 2
-    and (if eqb (c .format) 1 then eqb x 1
-    else if eqb (c .format) 2 then eqb (x * 256) 1
-    else c .half and eqb (c .low + x * 256) 1)
+    and (if eqb (c .format) 1 then eqb x 1 else not (eqb (c .format) 2) and c .half and eqb (c .low + x * 256) 1)
 
 unfoldable pub countsOne : Board → List ℕ → Bool
 countsOne b r =
-    eqb (op r) 1 and timerPort (port r) and not (eqb (port r % 4) 3) and completesOne (at (b .timer) (port r % 4)) (datum r)
+    eqb (op r) 1
+    and (if eqb (byte1 r) 16 then completesOne (at (b .timer) 0) (byte2 r)
+    else if eqb (byte1 r) 17 then completesOne (at (b .timer) 1) (byte2 r)
+    else eqb (byte1 r) 18 and completesOne (at (b .timer) 2) (byte2 r))
 
 -- The status that the table gives, in the order of the checks: 2, 1, 3, 4, 5, 6.
 abbrev pub due : Board → List ℕ → ℕ
@@ -124,7 +162,7 @@ due b r =
     if formed r then
     (if held b r then 1
     else if outOfTurn b r then 3
-    else if notBuilt b r then 4
+    else if notBuilt r then 4
     else if intLow b r then 5
     else if countsOne b r then 6
     else 0)

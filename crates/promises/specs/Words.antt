@@ -1,19 +1,20 @@
--- The words of demand 3: what an answer reports, where a channel moves its units, which bytes are in its range, what disturbs
--- the chip, and which boards are reached.
+-- The words of the statements: what an answer reports, where a channel moves its units, which bytes are in its range, what disturbs
+-- the DMA chip, and which of some levels or channels is the highest-ranked.
 use mathlib.Core.Path.{_≡_}
 use mathlib.Core.List.{List, [], _∷_, _++_}
-use mathlib.Core.Bool.{Bool, true, false}
-use Prim.Native.Nat.{ℕ, zero, suc, _+_, _*_, _-_, _%_, _<_}
+use mathlib.Core.Bool.{Bool, true, false, not}
+use mathlib.Core.Logic.{_≢_}
+use Prim.Native.Nat.{ℕ, zero, suc, _+_, _*_, _-_, _/_, _%_, _<_}
 use lib.Dec.{eqb, ltb, leb}
 use lib.ListN.{getD, take, drop, length}
 use Rattle.bits.specs.Choice.{if_then_else_, _and_, _or_}
-use Rattle.tape.specs.Records.{byte, dmaPort}
+use Rattle.bits.specs.Bits.{bitOf}
+use Rattle.timer.specs.Timer.{at}
 use Rattle.dma.specs.declared.Span.{Span}
 use Rattle.dma.specs.declared.Channel.{Channel}
+use Rattle.dma.specs.declared.Dma.{Dma}
 use Rattle.dma.specs.Fields.{chan}
-use Rattle.dma.specs.Cycle.{down, auto, writes}
 use Rattle.board.specs.declared.Board.{Board}
-use Rattle.board.specs.Wiring.{freshOf}
 use Rattle.board.specs.Step.{stepOf}
 use Rattle.board.specs.Records.{recordAt, after}
 use Rattle.intake.specs.Feed.{bytesOf, countOf, taken, fedOf, fedMemory, fedAnswers}
@@ -40,7 +41,7 @@ addressIn a = getD a 8 0 + getD a 9 0 * 256 + getD a 10 0 * 65536 + getD a 11 0 
 abbrev pub dataIn : List ℕ → ℕ
 dataIn a = getD a 2 0
 
--- The addresses of the units of channel k that some answers report, in their order.
+-- An answer reports a unit of channel k; the addresses of the units of channel k that some answers report, in their order.
 abbrev pub unitOf : ℕ → List ℕ → Bool
 unitOf k a = reportsUnit a and eqb (channelIn a) k
 
@@ -48,7 +49,7 @@ unfoldable pub unitsOf : ℕ → List (List ℕ) → List ℕ
 unitsOf k [] = []
 unitsOf k (a ∷ rest) = if unitOf k a then addressIn a ∷ unitsOf k rest else unitsOf k rest
 
--- The data of the last answer that reports a unit at place p by a channel of the set w; x if none does.
+-- An answer reports a unit at place p by a channel of the set w; the data of the last answer that does, or x if none does.
 abbrev pub unitAt : (ℕ → Bool) → ℕ → List ℕ → Bool
 unitAt w p a = reportsUnit a and w (channelIn a) and eqb (addressIn a) p
 
@@ -68,14 +69,24 @@ distance p a falls = if falls then (a + 16777216 - p) % 16777216 else (p + 16777
 unfoldable pub inside : ℕ → Span → Bool → Bool
 inside p s falls = ltb p 16777216 and leb (distance p (s .address) falls) (s .count)
 
+-- A channel's mode byte: with D3-D2=01, device to memory, it is set to write memory; D4 is autoinitialize; D5 has the address fall.
+abbrev pub writes : Channel → Bool
+writes c = eqb (c .mode / 4 % 4) 1
+
+abbrev pub auto : Channel → Bool
+auto c = bitOf (c .mode) 4
+
+abbrev pub down : Channel → Bool
+down c = bitOf (c .mode) 5
+
 -- A channel may write the byte at p: it is set to write memory, and p lies in its current range or, where it
 -- autoinitializes, in its base range.
 abbrev pub mayWrite : ℕ → Channel → Bool
 mayWrite p c = writes c and (inside p (c .current) (down c) or (auto c and inside p (c .base) (down c)))
 
--- The record r with its answer a disturbs the DMA chip: it is accepted, and a reset or a write to one of the chip's ports.
+-- The record r with its answer a disturbs the DMA chip: it is accepted, and a reset or a write to one of the chip's ports, 20H to 2FH (32 to 47).
 abbrev pub disturbs : List ℕ → List ℕ → Bool
-disturbs r a = eqb (getD a 0 0) 0 and (eqb (byte r 0) 0 or (eqb (byte r 0) 1 and dmaPort (byte r 1)))
+disturbs r a = eqb (getD a 0 0) 0 and (eqb (getD r 0 0) 0 or (eqb (getD r 0 0) 1 and leb 32 (getD r 1 0) and ltb (getD r 1 0) 48))
 
 -- None of the first n records of the bytes s disturbs the chip, on the way from the board b and the memory m. It is about records
 -- that are executed: a refused one does not count, and kept bytes may have begun the first.
@@ -84,18 +95,6 @@ Calm b m s n =
     (i : ℕ)
     → i < n
     → disturbs (recordAt s i) (stepOf (after b m s i .board) (recordAt s i) (after b m s i .memory) .answer) ≡ false
-
--- A board is reached if some calls lead to it from a board that was never fed, each with some tape, memory and buffer: any
--- lists of numbers, those of bytes among them. A call ends at the end of a record, and may keep the bytes of a cut one.
-pub data Reached : Board → Type 0 where
-  unfed : Reached freshOf
-  fed : {b : Board} (tape memory : List ℕ) (room : ℕ) → Reached b → Reached (fedOf b tape memory room .board)
-
--- What the types of the program say of every board's DMA chip: four channels, and counts of sixteen bits.
-pub record Typed (b : Board) : Type 0 where
-  pub four : length (b .dma .channels) ≡ 4
-  pub current : (n : ℕ) → chan (b .dma) n .current .count < 65536
-  pub base : (n : ℕ) → chan (b .dma) n .base .count < 65536
 
 -- Further calls on the same memory: from a board and a memory, with the answers of all of them, to a memory. Each is taken, and no record
 -- of it disturbs the chip.
@@ -106,3 +105,42 @@ pub data Further : Board → List ℕ → List (List ℕ) → List ℕ → Type 
       → Calm b m (bytesOf b tape) (countOf b tape)
       → Further (fedOf b tape m (length buffer) .board) (fedMemory b tape m (length buffer)) more m′
       → Further b m (answersIn (fedAnswers b tape m buffer) (countOf b tape) ++ more) m′
+
+-- With lowest level l, how many levels come before level n: l + 1 has none before it, l itself seven.
+abbrev pub before : ℕ → ℕ → ℕ
+before l n = (n + 7 - l) % 8
+
+-- Level n is the highest-ranked of a set of levels, by the lowest level l: it is in the set, and each other one in it comes after n.
+pub record Highest (levels : ℕ → Bool) (l n : ℕ) : Type 0 where
+  pub level : n < 8
+  pub chosen : levels n ≡ true
+  pub over : (k : ℕ) → k < 8 → levels k ≡ true → k ≢ n → before l n < before l k
+
+-- The line of level k: OUT0 for level 0, INTP1 to INTP7 for the others.
+abbrev pub lineHigh : Board → ℕ → Bool
+lineHigh b k = if eqb k 0 then at (b .timer) 0 .out else bitOf (b .intp) k
+
+-- The levels requested: in level trigger (IW1 with D3=1) those whose line is high, in edge trigger those with an edge request. The levels asked
+-- for: requested and unmasked. The levels in service.
+abbrev pub requested : Board → ℕ → Bool
+requested b k = if bitOf (b .icu .iw1) 3 then lineHigh b k else bitOf (b .icu .edges) k
+
+abbrev pub askedFor : Board → ℕ → Bool
+askedFor b k = requested b k and not (bitOf (b .icu .imr) k)
+
+abbrev pub inService : Board → ℕ → Bool
+inService b k = bitOf (b .icu .isr) k
+
+-- The DMA chip's channels by rank: how many come before channel n. With rotation the first is the one in the chip's field `first`, else channel 0.
+abbrev pub ahead : Dma → ℕ → ℕ
+ahead d n = (n + 4 - (if d .rotate then d .first else 0)) % 4
+
+-- Channel n asks: it is unmasked and its request is high.
+abbrev pub asks : Dma → ℕ → Bool
+asks d n = not (chan d n .masked) and bitOf (d .requests) n
+
+-- Channel n is the highest-ranked of those that ask.
+pub record Foremost (d : Dma) (n : ℕ) : Type 0 where
+  pub channel : n < 4
+  pub chosen : asks d n ≡ true
+  pub over : (k : ℕ) → k < 4 → asks d k ≡ true → k ≢ n → ahead d n < ahead d k

@@ -1,28 +1,28 @@
--- A board that is reached, and a further tape that disturbs nothing and moves three units: so what demand 3 asks for does exist.
-use mathlib.Core.Path.{_≡_, refl}
+-- Boards and tapes of which demand 3 and the statements on loading, half reads and units speak, each from reset by a short tape: so these are not
+-- about nothing. (Of interrupts the examples are such tapes.)
+use mathlib.Core.Path.{_≡_}
 use mathlib.Core.List.{List, [], _∷_, _++_}
-use Prim.Native.Nat.{ℕ, zero, suc}
-use native.Mathlib.Omega.{arith}
-use lib.ListN.{replicate}
+use Prim.Native.Nat.{ℕ}
+use lib.ListN.{length, replicate}
+use Rattle.timer.specs.Timer.{at}
 use Rattle.board.specs.declared.Board.{Board}
 use Rattle.board.specs.Wiring.{freshOf}
+use Rattle.board.specs.Step.{stepOf}
 use Rattle.board.specs.Records.{after}
 use Rattle.intake.specs.Feed.{fedOf}
-use Rattle.promises.specs.Words.{answerAt, answersIn, unitsOf, Calm, Reached, unfed, fed}
-use Rattle.promises.specs.Opened.{rules}
-use Rattle.promises.specs.Plain.{writing}
+use Rattle.promises.specs.Records.{writing, setting, pulsing, cycling, joined}
+use Rattle.promises.specs.Words.{answersIn, unitsOf, dataIn, Calm}
+use Rattle.promises.specs.Reached.{Reached}
+use Rattle.promises.specs.TaughtWords.{loading, readAt, later}
 
-abbrev cycling : ℕ → List ℕ
-cycling x = 6 ∷ 0 ∷ x ∷ 0 ∷ 0 ∷ 0 ∷ 0 ∷ 0 ∷ []
-
--- Channel 0 in block mode, device to memory, count 2 from address 5, unmasked; its request goes high.
+-- Demand 3, a further tape that disturbs nothing and moves three units. Channel 0 in block mode, device to memory, count 2 from address 5, unmasked; its
+-- request goes high.
 unfoldable pub setup : List ℕ
-setup =
-    writing 34 2 ++ writing 36 5 ++ writing 42 132 ++ writing 47 14 ++ 3 ∷ 2 ∷ 1 ∷ 0 ∷ 0 ∷ 0 ∷ 0 ∷ 0 ∷ []
+setup = joined (writing 34 2 ∷ writing 36 5 ∷ writing 42 132 ∷ writing 47 14 ∷ setting 2 1 ∷ [])
 
 -- The grant, three units, and a cycle too many.
 unfoldable pub further : List ℕ
-further = cycling 0 ++ cycling 7 ++ cycling 8 ++ cycling 9 ++ cycling 6
+further = joined (cycling 0 ∷ cycling 7 ∷ cycling 8 ∷ cycling 9 ∷ cycling 6 ∷ [])
 
 unfoldable pub memory : List ℕ
 memory = replicate 8 1
@@ -30,23 +30,50 @@ memory = replicate 8 1
 unfoldable pub board : Board
 board = fedOf freshOf setup memory 80 .board
 
-pub reached : Reached board
-unfolding board
-reached = fed setup memory 80 unfed
+-- Loading. Counter 2 in mode 0, low byte, at 9; counter 0 in mode 2, low byte, at 3; and three pulses.
+unfoldable pub timing : Board
+timing = after freshOf [] (loading 2 144 9 0) 3 .board
 
-pub units : unitsOf 0 (answersIn (after board memory further 5 .answers) 5) ≡ 5 ∷ 6 ∷ 7 ∷ []
-unfolding rules setup further memory board answerAt answersIn unitsOf
-units = refl
+unfoldable pub dividing : Board
+dividing = after freshOf [] (loading 0 20 3 0) 3 .board
 
-pub bytes : after board memory further 5 .memory ≡ 1 ∷ 1 ∷ 1 ∷ 1 ∷ 1 ∷ 7 ∷ 8 ∷ 9 ∷ []
-unfolding rules setup further memory board answerAt answersIn unitsOf
-bytes = refl
+unfoldable pub pulses : List ℕ
+pulses = joined (pulsing ∷ pulsing ∷ pulsing ∷ [])
 
-pub calm : Calm board memory further 5
-unfolding rules setup further memory board answerAt answersIn unitsOf
-calm zero h = refl
-calm (suc zero) h = refl
-calm (suc (suc zero)) h = refl
-calm (suc (suc (suc zero))) h = refl
-calm (suc (suc (suc (suc zero)))) h = refl
-calm (suc (suc (suc (suc (suc i))))) h = absurd (omega arith)
+-- Half a count read. Counter 0 in mode 0, both bytes, at 0200H; and a pulse and a latch.
+unfoldable pub halved : Board
+halved = after freshOf [] (loading 0 48 0 2) 4 .board
+
+unfoldable pub between : List ℕ
+between = joined (pulsing ∷ writing 19 0 ∷ [])
+
+-- Units. Channel 0 with count 2 and its request high: in single mode (44H), and in demand mode (04H) once it is served; and six cycles.
+unfoldable pub requesting : ℕ → List (List ℕ)
+requesting mode = writing 34 2 ∷ writing 42 mode ∷ writing 47 14 ∷ setting 2 1 ∷ []
+
+unfoldable pub waiting : Board
+waiting = fedOf freshOf (joined (requesting 68)) [] 64 .board
+
+unfoldable pub serving : Board
+serving = fedOf freshOf (joined (requesting 4 ++ cycling 7 ∷ [])) [] 80 .board
+
+unfoldable pub cycles : List ℕ
+cycles = joined (cycling 7 ∷ cycling 7 ∷ cycling 7 ∷ cycling 7 ∷ cycling 7 ∷ cycling 7 ∷ [])
+
+pub record Worked : Type 0 where
+  pub reached : Reached board
+  pub calm : Calm board memory further 5
+  pub units : unitsOf 0 (answersIn (after board memory further 5 .answers) 5) ≡ 5 ∷ 6 ∷ 7 ∷ []
+  pub bytes : after board memory further 5 .memory ≡ 1 ∷ 1 ∷ 1 ∷ 1 ∷ 1 ∷ 7 ∷ 8 ∷ 9 ∷ []
+  -- Counter 1 in mode 2, both bytes: the tape loads 0205H.
+  pub loaded : at (after freshOf [] (loading 1 116 5 2) 4 .board .timer) 1 .value ≡ 517
+  -- A count of 4 is loaded by the next pulse in mode 0; in mode 2 one of 5, by the third, which reloads.
+  pub rewritten : at (stepOf (stepOf timing (writing 18 4) [] .board) pulsing [] .board .timer) 2 .value ≡ 4
+  pub waited : at (after (stepOf dividing (writing 16 5) [] .board) [] pulses 3 .board .timer) 0 .value ≡ 5
+  -- After the low byte of 0200H, a pulse and a latch, the high byte of 01FFH is read.
+  pub half-read : dataIn (readAt (later halved [] 0 between 2 .board) (later halved [] 0 between 2 .memory) 0 .answer) ≡ 1
+  -- Count 2 moves three units.
+  pub waiting-reached : Reached waiting
+  pub serving-reached : Reached serving
+  pub singly : length (unitsOf 0 (answersIn (after waiting [] cycles 6 .answers) 6)) ≡ 3
+  pub demanded : length (unitsOf 0 (answersIn (after serving [] cycles 3 .answers) 3)) ≡ 3

@@ -1,0 +1,218 @@
+-- Each range is exact: its values are reached (Reaches.antt), and no reached board has another.
+use Prim.Native.Nat.{ℕ, zero, suc, _/_, _%_, _<_}
+use mathlib.Core.Path.{_≡_, refl, subst}
+use mathlib.Core.Bool.{Bool, true, false, not, true≢false, false≢true}
+use mathlib.Core.List.{[], _∷_}
+use native.Mathlib.Omega.{arith}
+use lib.Dec.{eqb, ltb}
+use borrow.Author.Tests.{eqb-true, ltb-true, ltb-false, eq-eqb, lt-ltb, le-ltb}
+use Rattle.bits.specs.Choice.{if_then_else_, _and_, _or_}
+use Rattle.timer.specs.declared.Counter.{Counter}
+use Rattle.timer.specs.Timer.{at}
+use Rattle.dma.specs.declared.Channel.{Channel}
+use Rattle.dma.specs.Fields.{chan}
+use Rattle.dma.specs.Registers.{unbuiltMode}
+use Rattle.board.specs.declared.Board.{Board}
+use Rattle.intake.specs.Ranges.{iw1Good, icuGood, counterGood, timerGood, channelGood, channelsGood, dmaGood, inRange}
+use Rattle.promises.specs.Table.{among}
+use Rattle.promises.specs.Reached.{Reached, Typed}
+use Rattle.promises.proofs.Logic.{both-left, both-right}
+use Rattle.promises.proofs.Runs.{sound-of, reached-sound}
+use Rattle.promises.proofs.BoardKept.{reached-held, reached-kept}
+use Rattle.promises.proofs.Sizes.{reached-typed}
+use Rattle.exact.specs.Exact.{Has, Exactly, Both, evens, modes, Within, Exact}
+use Rattle.exact.proofs.Reaches as up
+
+exactly : {f : Board → ℕ} {set : ℕ → Type 0} → ((v : ℕ) → set v → Has f v) → ((b : Board) → Reached b → set (f b)) → Exactly f set
+exactly {set = set} reaches bound v = (λ h. subst set (h .value) (bound (h .on) (h .reached)), reaches v)
+
+both : (f : Board → Bool) → ((v : ℕ) → v < 2 → Has (λ b. if f b then 1 else 0) v) → Both f
+both f reaches = exactly reaches (λ b r. small (f b))
+  where
+    small : (q : Bool) → (if q then 1 else 0) < 2
+    small true = omega arith
+    small false = omega arith
+
+-- A counter's mode and format, and a channel's mode.
+abbrev modeTest : ℕ → Bool
+modeTest v = eqb v 0 or eqb v 2 or eqb v 255
+
+counter-is : {b : Board} → Reached b → (n : ℕ) → (ltb (at (b .timer) n .format) 4 and modeTest (at (b .timer) n .mode)) ≡ true
+unfolding counterGood
+counter-is r n = reached-held r .timer n
+
+format-is : {b : Board} → Reached b → (n : ℕ) → at (b .timer) n .format < 4
+format-is {b} r n = ltb-true _ 4 (both-left (ltb (at (b .timer) n .format) 4) (modeTest (at (b .timer) n .mode)) (counter-is r n))
+
+last-of : (p q w : Bool) → (p or q or w) ≡ true → (p or q or w or false) ≡ true
+last-of true q w h = refl
+last-of false true w h = refl
+last-of false false true h = refl
+last-of false false false h = h
+
+mode-is : {b : Board} → Reached b → (n : ℕ) → among (at (b .timer) n .mode) (0 ∷ 2 ∷ 255 ∷ []) ≡ true
+unfolding among
+mode-is {b} r n =
+    let v = at (b .timer) n .mode in
+    last-of (eqb v 0) (eqb v 2) (eqb v 255) (both-right (ltb (at (b .timer) n .format) 4) (modeTest v) (counter-is r n))
+
+built : (v : ℕ) → unbuiltMode v ≡ false → modes v ≡ true
+unfolding unbuiltMode
+built v h = go (eqb (v / 64) 3) (eqb (v / 4 % 4) 3) (ltb 0 (v % 4)) refl h
+  where
+    go : (p q w : Bool) → ltb 0 (v % 4) ≡ w → (p or q or w) ≡ false → (not p and not q and eqb (v % 4) 0) ≡ true
+    go true q w e h = absurd (true≢false h)
+    go false true w e h = absurd (true≢false h)
+    go false false true e h = absurd (true≢false h)
+    go false false false e h = eq-eqb (v % 4) 0 (omega (arith, ltb-false 0 (v % 4) e))
+
+-- The test, and the sets.
+unbuilt : (v : ℕ) → modes v ≡ true → unbuiltMode v ≡ false
+unfolding unbuiltMode
+unbuilt v h = go (eqb (v / 64) 3) (eqb (v / 4 % 4) 3) h
+  where
+    go : (p q : Bool) → (not p and not q and eqb (v % 4) 0) ≡ true → (p or q or ltb 0 (v % 4)) ≡ false
+    go true q h = absurd (false≢true h)
+    go false true h = absurd (false≢true h)
+    go false false h = le-ltb 0 (v % 4) (omega (arith, eqb-true (v % 4) 0 h))
+
+one-of : (p q w : Bool) → (p or q or w or false) ≡ true → (p or q or w) ≡ true
+one-of true q w h = refl
+one-of false true w h = refl
+one-of false false true h = refl
+one-of false false false h = h
+
+counter-good : (c : Counter) → c .format < 4 → among (c .mode) (0 ∷ 2 ∷ 255 ∷ []) ≡ true → counterGood c ≡ true
+unfolding counterGood among
+counter-good c h k = rw (lt-ltb (c .format) 4 h) (one-of (eqb (c .mode) 0) (eqb (c .mode) 2) (eqb (c .mode) 255) k)
+
+good-counter : (c : Counter) → counterGood c ≡ true → (c .format < 4) × (among (c .mode) (0 ∷ 2 ∷ 255 ∷ []) ≡ true)
+unfolding counterGood among
+good-counter c h = (
+  ltb-true (c .format) 4 (both-left (ltb (c .format) 4) (modeTest (c .mode)) h),
+  last-of (eqb (c .mode) 0) (eqb (c .mode) 2) (eqb (c .mode) 255) (both-right (ltb (c .format) 4) (modeTest (c .mode)) h),
+)
+
+channel-good : (c : Channel) → c .current .address < 16777216 → c .base .address < 16777216 → modes (c .mode) ≡ true → channelGood c ≡ true
+unfolding channelGood
+channel-good c a h k = rw (lt-ltb (c .current .address) 16777216 a, lt-ltb (c .base .address) 16777216 h, unbuilt (c .mode) k)
+
+module _ (b : Board) (t : Typed b) where
+  within : inRange b ≡ true → Within b
+  unfolding inRange icuGood iw1Good timerGood
+  within h =
+      let h1 = both-right (ltb (b .kept .length) 8) _ h in
+      let h2 = both-right (evens (b .intp)) _ h1 in
+      let h3 = both-right (icuGood (b .icu)) _ h2 in
+      let i = both-left (icuGood (b .icu)) _ h2 in
+      let i1 = both-right (ltb (b .icu .stage) 4) _ i in
+      let c = both-left (timerGood (b .timer)) _ h3 in
+      let c1 = both-right (counterGood (at (b .timer) 0)) _ c in
+      let d = sound-of b t h in
+      record {
+        stage = ltb-true _ _ (both-left (ltb (b .icu .stage) 4) _ i);
+        iw1 = both-right (ltb (b .icu .lowest) 8) _ i1;
+        lowest = ltb-true _ _ (both-left (ltb (b .icu .lowest) 8) _ i1);
+        intp = both-left (evens (b .intp)) _ h1;
+        mode = λ n l. counters c c1 n l .1;
+        format = λ n l. counters c c1 n l .0;
+        address = λ n l. d .good n .address;
+        base-address = λ n l. d .good n .home;
+        channel-mode = λ n l. built (chan (b .dma) n .mode) (d .good n .built);
+        selected = d .selected;
+        first = d .first;
+        channel = d .channel;
+        requests = d .requests;
+        ends = d .ends;
+        kept-length = ltb-true _ _ (both-left (ltb (b .kept .length) 8) _ h);
+      }
+    where
+      counters : (counterGood (at (b .timer) 0) and counterGood (at (b .timer) 1) and counterGood (at (b .timer) 2)) ≡ true
+          → (counterGood (at (b .timer) 1) and counterGood (at (b .timer) 2)) ≡ true
+          → (n : ℕ)
+          → n < 3
+          → (at (b .timer) n .format < 4) × (among (at (b .timer) n .mode) (0 ∷ 2 ∷ 255 ∷ []) ≡ true)
+      counters p q zero l = good-counter (at (b .timer) 0) (both-left (counterGood (at (b .timer) 0)) _ p)
+      counters p q (suc zero) l = good-counter (at (b .timer) 1) (both-left (counterGood (at (b .timer) 1)) (counterGood (at (b .timer) 2)) q)
+      counters p q (suc (suc zero)) l = good-counter (at (b .timer) 2) (both-right (counterGood (at (b .timer) 1)) (counterGood (at (b .timer) 2)) q)
+      counters p q (suc (suc (suc n))) l = absurd (omega arith)
+
+  passes : Within b → inRange b ≡ true
+  unfolding inRange icuGood iw1Good timerGood dmaGood channelsGood
+  passes w =
+      rw (
+        lt-ltb (b .kept .length) 8 (w .kept-length),
+        w .intp,
+        lt-ltb (b .icu .stage) 4 (w .stage),
+        lt-ltb (b .icu .lowest) 8 (w .lowest),
+        w .iw1,
+        counter-of 0 (omega arith),
+        counter-of 1 (omega arith),
+        counter-of 2 (omega arith),
+        lt-ltb (b .dma .selected) 4 (w .selected),
+        lt-ltb (b .dma .first) 4 (w .first),
+        lt-ltb (b .dma .channel) 4 (w .channel),
+        lt-ltb (b .dma .requests) 16 (w .requests),
+        lt-ltb (b .dma .ends) 16 (w .ends),
+        channel-at 0 (omega arith),
+        channel-at 1 (omega arith),
+        channel-at 2 (omega arith),
+        channel-at 3 (omega arith),
+      )
+    where
+      counter-of : (n : ℕ) → n < 3 → counterGood (at (b .timer) n) ≡ true
+      counter-of n l = counter-good (at (b .timer) n) (w .format n l) (w .mode n l)
+
+      channel-at : (n : ℕ) → n < 4 → channelGood (chan (b .dma) n) ≡ true
+      channel-at n l = channel-good (chan (b .dma) n) (w .address n l) (w .base-address n l) (w .channel-mode n l)
+
+pub exact : Exact
+unfolding iw1Good
+exact =
+    record {
+      tested = λ b t. (within b t, passes b t);
+      stage = exactly up.stage (λ b r. reached-held r .icu .stage);
+      iw1 = exactly (λ v h. up.iw1 v (h .0) (h .1)) (λ b r. (reached-typed r .iw1, reached-held r .icu .iw1));
+      iw2 = exactly up.iw2 (λ b r. reached-typed r .iw2);
+      sfi = both (λ b. b .icu .sfi) up.sfi;
+      vector = both (λ b. b .icu .vector) up.vector;
+      rotation = both (λ b. b .icu .rotation) up.rotation;
+      showsisr = both (λ b. b .icu .showsisr) up.showsisr;
+      edges = exactly up.edges (λ b r. reached-typed r .edges);
+      isr = exactly up.isr (λ b r. reached-typed r .isr);
+      imr = exactly up.imr (λ b r. reached-typed r .imr);
+      lowest = exactly up.lowest (λ b r. reached-held r .icu .lowest);
+      intp = exactly (λ v h. up.intp v (h .0) (h .1)) (λ b r. (reached-typed r .intp, reached-held r .intp));
+      mode = λ n l. exactly (λ v h. up.mode n v l h) (λ b r. mode-is r n);
+      format = λ n l. exactly (λ v h. up.format n v l h) (λ b r. format-is r n);
+      value = λ n l. exactly (λ v h. up.value n v l h) (λ b r. reached-typed r .value n);
+      count = λ n l. exactly (λ v h. up.count n v l h) (λ b r. reached-typed r .count n);
+      latch = λ n l. exactly (λ v h. up.latch n v l h) (λ b r. reached-typed r .latch n);
+      low = λ n l. exactly (λ v h. up.low n v l h) (λ b r. reached-typed r .low n);
+      full = λ n l. both (λ b. at (b .timer) n .full) (λ v h. up.full n v l h);
+      pending = λ n l. both (λ b. at (b .timer) n .pending) (λ v h. up.pending n v l h);
+      trigger = λ n l. both (λ b. at (b .timer) n .trigger) (λ v h. up.trigger n v l h);
+      half = λ n l. both (λ b. at (b .timer) n .half) (λ v h. up.half n v l h);
+      latched = λ n l. both (λ b. at (b .timer) n .latched) (λ v h. up.latched n v l h);
+      second = λ n l. both (λ b. at (b .timer) n .second) (λ v h. up.second n v l h);
+      gate = λ n l. both (λ b. at (b .timer) n .gate) (λ v h. up.gate n v l h);
+      out = λ n l. both (λ b. at (b .timer) n .out) (λ v h. up.out n v l h);
+      address = λ n l. exactly (λ v h. up.address n v l h) (λ b r. reached-sound r .good n .address);
+      base-address = λ n l. exactly (λ v h. up.base-address n v l h) (λ b r. reached-sound r .good n .home);
+      current-count = λ n l. exactly (λ v h. up.units n v l h) (λ b r. reached-sound r .good n .count);
+      base-count = λ n l. exactly (λ v h. up.base-units n v l h) (λ b r. reached-sound r .good n .size);
+      channel-mode = λ n l. exactly (λ v h. up.channel-mode n v l (h .0) (h .1))
+          (λ b r. (reached-typed r .mode n, built (chan (b .dma) n .mode) (reached-sound r .good n .built)));
+      masked = λ n l. both (λ b. chan (b .dma) n .masked) (λ v h. up.masked n v l h);
+      selected = exactly up.selected (λ b r. reached-sound r .selected);
+      base = both (λ b. b .dma .base) up.base;
+      rotate = both (λ b. b .dma .rotate) up.rotate;
+      disabled = both (λ b. b .dma .disabled) up.disabled;
+      serving = both (λ b. b .dma .serving) up.serving;
+      first = exactly up.first (λ b r. reached-sound r .first);
+      channel = exactly up.channel (λ b r. reached-sound r .channel);
+      requests = exactly up.requests (λ b r. reached-sound r .requests);
+      ends = exactly up.ends (λ b r. reached-sound r .ends);
+      kept-byte = λ i l. exactly (λ v h. up.kept-byte i v l h) (λ b r. reached-typed r .kept i);
+      kept-length = exactly up.kept-length (λ b r. reached-kept r);
+    }

@@ -1,0 +1,147 @@
+-- Every record leaves the board in its ranges.
+use mathlib.Core.Path.{_≡_, refl}
+use mathlib.Core.List.{List}
+use mathlib.Core.Bool.{true}
+use Prim.Native.Nat.{ℕ, zero, suc, _/_, _<_, _%_}
+use native.Mathlib.Omega.{arith}
+use lib.Dec.{eqb}
+use lib.ListN.{length}
+use borrow.Author.Tests.{lt-ltb}
+use Rattle.icu.specs.declared.Icu.{Icu}
+use Rattle.timer.specs.declared.Timer.{Timer}
+use Rattle.timer.specs.Timer.{writesOf, readsOf}
+use Rattle.tape.specs.declared.Operation.the-variants.{Reset, Write, Read, Intp, Gates, Requests, Acknowledge, Advance, Cycle}
+use Rattle.tape.specs.declared.Decoded.{Decoded}
+use Rattle.tape.specs.Records.{byte, decodeOf, pulseCount}
+use Rattle.dma.specs.declared.Channel.{Channel}
+use Rattle.dma.specs.declared.Dma.{Dma}
+use Rattle.dma.specs.Fields.{chan}
+use Rattle.dma.specs.Registers as DmaRegisters
+use Rattle.board.specs.declared.Board.{Board}
+use Rattle.board.specs.Operations.{Outcome, a0, timerWritten, timerShown, dmaWritten, dmaShown, writeOf, readOf, cycleOf}
+use Rattle.board.specs.Wiring.{freshOf, lines, linesAt, rewired}
+use Rattle.board.specs.Advance.{tickOf, advancedOf, advanceOf}
+use Rattle.board.specs.Step.{executeOf, blocked, outcomeOf, answeredOf, stepOf}
+use Rattle.intake.specs.declared.Fed.{Fed}
+use Rattle.board.specs.Records.{recordAt, after}
+use Rattle.intake.specs.Ranges.{channelGood, channelsGood, dmaGood}
+use Rattle.intake.specs.Feed.{bytesOf, countOf, taken, fedOf}
+use Rattle.tape.proofs.Decodes.{either, Decodes, malformed, reset, write, read, intp, gates, requests, acknowledge, advance, cycle, decodes}
+use Rattle.promises.specs.Reached.{Reached, unfed, fed}
+use Rattle.promises.proofs.Sound.{Good, Sound}
+use Rattle.promises.proofs.IcuKept as the-icu
+use Rattle.promises.proofs.TimerKept as the-timer
+
+-- What holds of every board between two records.
+pub record Held (b : Board) : Type 0 where
+  pub intp : eqb (b .intp % 2) 0 ≡ true
+  pub icu : the-icu.Fine (b .icu)
+  pub timer : the-timer.Fine (b .timer)
+
+-- An advance.
+advanced : (i : ℕ) (t : Timer) (c : Icu) (n : ℕ) → the-timer.Fine t → the-icu.Fine c
+    → the-timer.Fine (advancedOf i t c n .timer) × the-icu.Fine (advancedOf i t c n .icu)
+unfolding advancedOf tickOf
+advanced i t c zero f g = (f, g)
+advanced i t c (suc n) f g =
+    let r = advancedOf i t c n in
+    let k = advanced i t c n f g in
+    (the-timer.pulses-fine (r .timer) (k .0), the-icu.lines-fine (r .icu) (k .1) _ _)
+
+module _ (b : Board) (h : Held b) where
+  abbrev P : Outcome → Type 0
+  P o = Held (o .board)
+
+  rewired-held : (l : ℕ) (t : Timer) → eqb (l % 2) 0 ≡ true → the-timer.Fine t → Held (rewired l t b)
+  unfolding rewired
+  rewired-held l t e f = record { intp = e; icu = the-icu.lines-fine (b .icu) (h .icu) (lines b) (linesAt l t); timer = f }
+
+  write-held : (p x : ℕ) → P (writeOf b p x)
+  unfolding writeOf timerWritten dmaWritten
+  write-held p x =
+      either P (eqb (p / 16) 0) (λ _. record { intp = h .intp; icu = the-icu.write-fine (b .icu) (h .icu) (a0 p) x; timer = h .timer })
+      (λ _. either P (eqb (p / 16) 1)
+      (λ _. either P (eqb (writesOf (b .timer) p x .status) 0)
+      (λ _. rewired-held (b .intp) (writesOf (b .timer) p x .timer) (h .intp) (the-timer.writes-fine (b .timer) (h .timer) p x))
+      (λ _. h))
+      (λ _. either P (eqb (DmaRegisters.writeOf (b .dma) p x .status) 0)
+      (λ _. record { intp = h .intp; icu = h .icu; timer = h .timer })
+      (λ _. h)))
+
+  read-held : (p : ℕ) → P (readOf b p)
+  unfolding readOf timerShown dmaShown
+  read-held p =
+      either P (eqb (p / 16) 0) (λ _. record { intp = h .intp; icu = the-icu.read-fine (b .icu) (h .icu) (a0 p) (lines b); timer = h .timer })
+      (λ _. either P (eqb (p / 16) 1)
+      (λ _. either P (eqb (readsOf (b .timer) p .status) 0)
+      (λ _. record { intp = h .intp; icu = h .icu; timer = the-timer.reads-fine (b .timer) (h .timer) p })
+      (λ _. h))
+      (λ _. either P (eqb (DmaRegisters.readOf (b .dma) p .status) 0)
+      (λ _. record { intp = h .intp; icu = h .icu; timer = h .timer })
+      (λ _. h)))
+
+  module _ (r m : List ℕ) where
+    execute-held : (x : Decoded) → Decodes r x → P (outcomeOf b x m)
+    unfolding outcomeOf executeOf advanceOf cycleOf
+    execute-held x malformed = h
+    execute-held x (reset o) = either P (blocked b Reset) (λ _. h) (λ _. record { intp = refl; icu = the-icu.reset-fine; timer = the-timer.resets-fine })
+    execute-held x (write o p) = either P (blocked b (Write (byte r 1) (byte r 2))) (λ _. h) (λ _. write-held (byte r 1) (byte r 2))
+    execute-held x (read o p) = either P (blocked b (Read (byte r 1))) (λ _. h) (λ _. read-held (byte r 1))
+    execute-held x (intp o l) = either P (blocked b (Intp (byte r 2))) (λ _. h) (λ _. rewired-held (byte r 2) (b .timer) l (h .timer))
+    execute-held x (gates o l) =
+        either P (blocked b (Gates (byte r 2))) (λ _. h)
+        (λ _. rewired-held (b .intp) _ (h .intp) (the-timer.gates-fine (b .timer) (h .timer) (byte r 2)))
+    execute-held x (requests o l) = either P (blocked b (Requests (byte r 2))) (λ _. h) (λ _. record { intp = h .intp; icu = h .icu; timer = h .timer })
+    execute-held x (acknowledge o) =
+        either P (blocked b Acknowledge) (λ _. h)
+        (λ _. record { intp = h .intp; icu = the-icu.acknowledge-fine (b .icu) (h .icu) (lines b); timer = h .timer })
+    execute-held x (advance o l) =
+        either P (blocked b (Advance (pulseCount r))) (λ _. h)
+        (λ _. let k = advanced (b .intp) (b .timer) (b .icu) (pulseCount r) (h .timer) (h .icu) in
+        record { intp = h .intp; icu = k .1; timer = k .0 })
+    execute-held x (cycle o) =
+        either P (blocked b (Cycle (eqb (byte r 1) 1) (byte r 2))) (λ _. h) (λ _. record { intp = h .intp; icu = h .icu; timer = h .timer })
+
+    pub step-held : Held (stepOf b r m .board)
+    unfolding stepOf answeredOf
+    step-held = execute-held (decodeOf r) (decodes r)
+
+pub after-held : (b : Board) (m s : List ℕ) (n : ℕ) → Held b → Held (after b m s n .board)
+unfolding after
+after-held b m s zero h = h
+after-held b m s (suc n) h = step-held (after b m s n .board) (after-held b m s n h) (recordAt s n) (after b m s n .memory)
+
+pub reached-held : {b : Board} → Reached b → Held b
+unfolding freshOf fedOf
+reached-held unfed = record { intp = refl; icu = the-icu.reset-fine; timer = the-timer.resets-fine }
+reached-held (fed {b = b} t m room _ _ g) =
+    either (λ (f : Fed). Held (f .board)) (taken b t room)
+    (λ _. let k = after-held b m (bytesOf b t) (countOf b t) (reached-held g) in record { intp = k .intp; icu = k .icu; timer = k .timer })
+    (λ _. reached-held g)
+
+-- At most seven bytes are kept.
+pub reached-kept : {b : Board} → Reached b → b .kept .length < 8
+unfolding freshOf fedOf
+reached-kept unfed = omega arith
+reached-kept (fed {b = b} t m room _ _ g) =
+    either (λ (f : Fed). f .board .kept .length < 8) (taken b t room) (λ _. omega arith) (λ _. reached-kept g)
+
+-- The DMA chip's ranges as they are tested.
+channel-good : (c : Channel) → Good c → channelGood c ≡ true
+unfolding channelGood
+channel-good c g = rw (lt-ltb (c .current .address) 16777216 (g .address), lt-ltb (c .base .address) 16777216 (g .home), g .built)
+
+pub sound-good : (d : Dma) → Sound d → dmaGood d ≡ true
+unfolding dmaGood channelsGood
+sound-good d s =
+    rw (
+      lt-ltb (d .selected) 4 (s .selected),
+      lt-ltb (d .first) 4 (s .first),
+      lt-ltb (d .channel) 4 (s .channel),
+      lt-ltb (d .requests) 16 (s .requests),
+      lt-ltb (d .ends) 16 (s .ends),
+      channel-good (chan d 0) (s .good 0),
+      channel-good (chan d 1) (s .good 1),
+      channel-good (chan d 2) (s .good 2),
+      channel-good (chan d 3) (s .good 3),
+    )

@@ -1,0 +1,27 @@
+-- Tests.
+use mathlib.Core.Path.{_≡_, refl, sym, subst}
+use mathlib.Core.Bool.{Bool, true, false, false≢true}
+use Prim.Native.Nat.{ℕ, _<_}
+use lib.Dec.{T}
+use Rattle.bits.specs.Choice.{_and_, every}
+use Rattle.bits.proofs.Every.{below}
+
+pub both-left : (p q : Bool) → (p and q) ≡ true → p ≡ true
+both-left true q h = refl
+both-left false q h = h
+
+pub both-right : (p q : Bool) → (p and q) ≡ true → q ≡ true
+both-right true q h = h
+both-right false q h = absurd (false≢true h)
+
+pub both : (p q : Bool) → p ≡ true → q ≡ true → (p and q) ≡ true
+both p q h k = rw (h, k)
+
+-- A test that holds.
+pub T-true : (q : Bool) → T q → q ≡ true
+T-true true t = refl
+T-true false t = absurd t
+
+-- What holds of each number below n.
+pub each-true : (f : ℕ → Bool) (n : ℕ) → every f n ≡ true → (k : ℕ) → k < n → f k ≡ true
+each-true f n h k l = T-true (f k) (below f n (subst T (sym h) tt) k l)

@@ -1,0 +1,21 @@
+-- All that is promised is kept.
+use Rattle.promises.specs.Promises.{Promises}
+use Rattle.promises.proofs.Demand1.{demand-1}
+use Rattle.promises.proofs.Demand3.{demand-3}
+use Rattle.promises.proofs.Reached.{reached}
+use Rattle.promises.proofs.Taught.{taught}
+use Rattle.promises.proofs.Meant.{meant}
+use Rattle.promises.proofs.Worked.{worked}
+use Rattle.promises.proofs.Examples.{examples}
+
+pub promises : Promises
+promises =
+    record {
+      demand-1 = demand-1;
+      demand-3 = demand-3;
+      reached = reached;
+      taught = taught;
+      meant = meant;
+      worked = worked;
+      examples = examples;
+    }

@@ -1,0 +1,376 @@
+-- The table as it is read from the document is the table in the words of the rules.
+use mathlib.Core.Path.{_≡_, refl, sym, ap, _∙_, subst}
+use mathlib.Core.List.{List, [], _∷_}
+use mathlib.Core.Bool.{Bool, true, false, not}
+use Prim.Native.Nat.{ℕ, _+_, _*_, _/_, _%_, _≤_, _<_}
+use native.Mathlib.Nat.{mod-eq-of-lt}
+use native.Mathlib.Omega.{arith}
+use lib.Dec.{eqb, ltb, leb}
+use lib.ListN.{getD}
+use lib.Bits.{and-mod, and-le-r}
+use borrow.Author.Tests.{eqb-true, eqb-false, ltb-true, ltb-false, leb-true, leb-false, le-ltb, le-leb, ne-eqb}
+use Rattle.bits.specs.Choice.{if_then_else_, _and_, _or_, every}
+use Rattle.bits.specs.Bits.{bitOf, maskedOf}
+use Rattle.bits.proofs.Every.{alike}
+use Rattle.tape.specs.Records.{unused, icuPort, timerPort, dmaPort, writable, readable, pulseCount}
+use Rattle.icu.specs.Words.{ready}
+use Rattle.timer.specs.declared.Counter.{Counter}
+use Rattle.timer.specs.declared.Timer.{Timer}
+use Rattle.timer.specs.Ports.{CM, moded}
+use Rattle.timer.specs.Timer.{at}
+use Rattle.dma.specs.Registers as Registers
+use Rattle.board.specs.declared.Board.{Board}
+use Rattle.board.specs.Operations.{a0}
+use Rattle.board.specs.Step.{stepOf}
+use Rattle.promises.specs.Table as Table
+use Rattle.promises.specs.Table.{among, uses, toWrite, toRead}
+use Rattle.promises.proofs.Logic.{both-left, both-right}
+use Rattle.promises.proofs.Ruled as Ruled
+use Rattle.promises.proofs.Statuses.{status-ruled}
+
+-- Ports below 48 by a computed test; none from there on is open.
+allBelow : ℕ → List ℕ → Bool
+allBelow n [] = true
+allBelow n (y ∷ rest) = ltb y n and allBelow n rest
+
+past : (n p : ℕ) (l : List ℕ) → n ≤ p → allBelow n l ≡ true → among p l ≡ false
+unfolding among allBelow
+past n p [] h q = refl
+past n p (y ∷ rest) h q =
+    let k = ltb-true y n (both-left (ltb y n) (allBelow n rest) q) in
+    rw (ne-eqb p y (omega arith), past n p rest h (both-right (ltb y n) (allBelow n rest) q))
+
+open-write : (p : ℕ) → among p toWrite ≡ writable p
+unfolding among writable every allBelow
+open-write p = go (ltb p 48) refl
+  where
+    go : (q : Bool) → ltb p 48 ≡ q → among p toWrite ≡ writable p
+    go true q = alike (λ p. among p toWrite) writable 48 tt p (ltb-true p 48 q)
+    go false q =
+        let h = ltb-false p 48 q in
+        past 48 p toWrite h refl ∙ sym (rw (le-ltb p 2 (omega arith), le-leb 16 p (omega arith), le-ltb p 20 (omega arith), le-leb 32 p (omega arith), q) refl)
+
+open-read : (p : ℕ) → among p toRead ≡ readable p
+unfolding among readable every allBelow
+open-read p = go (ltb p 48) refl
+  where
+    go : (q : Bool) → ltb p 48 ≡ q → among p toRead ≡ readable p
+    go true q = alike (λ p. among p toRead) readable 48 tt p (ltb-true p 48 q)
+    go false q =
+        let h = ltb-false p 48 q in
+        past 48 p toRead h refl ∙ sym (rw (le-ltb p 2 (omega arith), le-leb 16 p (omega arith), le-ltb p 20 (omega arith), le-leb 32 p (omega arith), q) refl)
+
+-- The bytes that an operation does not use.
+five : (a b c d e : Bool) → (a and b and c and d and e) ≡ (a and b and c and d and e and true)
+five true true true true true = refl
+five true true true true false = refl
+five true true true false e = refl
+five true true false d e = refl
+five true false c d e = refl
+five false b c d e = refl
+
+six : (a b c d e f : Bool) → (a and b and c and d and e and f) ≡ (a and b and c and d and e and f and true)
+six true b c d e f = five b c d e f
+six false b c d e f = refl
+
+seven : (a b c d e f g : Bool) → (a and b and c and d and e and f and g) ≡ (a and b and c and d and e and f and g and true)
+seven true b c d e f g = six b c d e f g
+seven false b c d e f g = refl
+
+abbrev zeroAt : List ℕ → ℕ → Bool
+zeroAt r i = eqb (getD r i 0) 0
+
+-- One row of the table after another.
+rows : (q : Bool) {x y v w : Bool} → x ≡ v → y ≡ w → (if q then x else y) ≡ (if q then v else w)
+rows true h k = h
+rows false h k = k
+
+pairs : {x y v w : Bool} → x ≡ v → y ≡ w → (x and y) ≡ (v and w)
+pairs h k = rw (h, k)
+
+pub same-formed : (r : List ℕ) → Table.formed r ≡ Ruled.formed r
+unfolding Table.formed Ruled.formed Table.levelsFit Ruled.levelsFit uses unused among pulseCount
+same-formed r =
+    rows (eqb (getD r 0 0) 0) none
+    (rows (eqb (getD r 0 0) 1) (pairs two (open-write (getD r 1 0)))
+    (rows (eqb (getD r 0 0) 2) (pairs one (open-read (getD r 1 0)))
+    (rows (eqb (getD r 0 0) 3) (pairs two refl)
+    (rows (eqb (getD r 0 0) 4) none
+    (rows (eqb (getD r 0 0) 5) refl
+    (rows (eqb (getD r 0 0) 6) (pairs two refl) refl))))))
+  where
+    none : uses r [] ≡ unused r 1 7
+    none = seven (zeroAt r 1) (zeroAt r 2) (zeroAt r 3) (zeroAt r 4) (zeroAt r 5) (zeroAt r 6) (zeroAt r 7)
+
+    one : uses r (1 ∷ []) ≡ unused r 2 6
+    one = six (zeroAt r 2) (zeroAt r 3) (zeroAt r 4) (zeroAt r 5) (zeroAt r 6) (zeroAt r 7)
+
+    two : uses r (1 ∷ 2 ∷ []) ≡ unused r 3 5
+    two = five (zeroAt r 3) (zeroAt r 4) (zeroAt r 5) (zeroAt r 6) (zeroAt r 7)
+
+-- A last "or" of a list.
+or-false : (q : Bool) → (q or false) ≡ q
+or-false true = refl
+or-false false = refl
+
+two-of : (p q : Bool) → (p or q or false) ≡ (p or q)
+two-of true q = refl
+two-of false q = or-false q
+
+three-of : (p q w : Bool) → (p or q or w or false) ≡ (p or q or w)
+three-of true q w = refl
+three-of false q w = two-of q w
+
+-- A counter with no mode, and a chip that no IW1 has started.
+same-modeless : (t : Timer) (n : ℕ) → Table.modeless t n ≡ Ruled.modeless t n
+unfolding among moded
+same-modeless t n = ap not (two-of (eqb (at t n .mode) 0) (eqb (at t n .mode) 2))
+
+-- The built modes of the timer; the bits of device control and of mode control.
+same-mode : (x : ℕ) → not (among (x / 2 % 8) (0 ∷ 2 ∷ 6 ∷ [])) ≡ (not (eqb (CM x) 0) and not (eqb (CM x % 4) 2))
+unfolding among every
+same-mode x = alike (λ m. not (among m (0 ∷ 2 ∷ 6 ∷ []))) (λ m. not (eqb m 0) and not (eqb (m % 4) 2)) 8 tt (x / 2 % 8) (omega arith)
+
+pub same-control : (x : ℕ) → Table.unbuiltControl x ≡ Ruled.unbuiltControl x
+same-control x = ap (λ (q : Bool). eqb (x / 64) 3 or (not (eqb (x / 16 % 4) 0) and (eqb (x % 2) 1 or q))) (same-mode x)
+
+-- Device control, by the low byte.
+abbrev otherThanD4D2 : ℕ → Bool
+otherThanD4D2 x = not (eqb (maskedOf x 20) 0)
+
+low-device : (x : ℕ) → Table.unbuiltDeviceControl x ≡ Table.unbuiltDeviceControl (x % 256)
+unfolding bitOf
+low-device x = rw (d0 x, d1 x, d3 x, d5 x, d6 x, d7 x)
+  where
+    d0 : (y : ℕ) → y / 1 % 2 ≡ y % 256 / 1 % 2
+    d0 y = omega arith
+
+    d1 : (y : ℕ) → y / 2 % 2 ≡ y % 256 / 2 % 2
+    d1 y = omega arith
+
+    d3 : (y : ℕ) → y / 8 % 2 ≡ y % 256 / 8 % 2
+    d3 y = omega arith
+
+    d5 : (y : ℕ) → y / 32 % 2 ≡ y % 256 / 32 % 2
+    d5 y = omega arith
+
+    d6 : (y : ℕ) → y / 64 % 2 ≡ y % 256 / 64 % 2
+    d6 y = omega arith
+
+    d7 : (y : ℕ) → y / 128 % 2 ≡ y % 256 / 128 % 2
+    d7 y = omega arith
+
+low-masked : (x : ℕ) → maskedOf x 20 ≡ maskedOf (x % 256) 20
+unfolding maskedOf
+low-masked x = sym (mod-eq-of-lt (omega (arith, and-le-r x 235))) ∙ and-mod x 235 8
+
+same-device : (x : ℕ) → Table.unbuiltDeviceControl x ≡ otherThanD4D2 x
+unfolding every bitOf maskedOf
+same-device x =
+    low-device x
+    ∙ alike Table.unbuiltDeviceControl otherThanD4D2 256 tt (x % 256) (omega arith)
+    ∙ ap (λ (y : ℕ). not (eqb y 0)) (sym (low-masked x))
+
+same-unbuilt : (x : ℕ) → Table.unbuiltMode x ≡ Registers.unbuiltMode x
+unfolding Registers.unbuiltMode every
+same-unbuilt x =
+    ap (λ (q : Bool). eqb (x / 64) 3 or eqb (x / 4 % 4) 3 or q) (alike (λ y. not (eqb y 0)) (λ y. ltb 0 y) 4 tt (x % 4) (omega arith))
+
+-- A port is one of those that are named, or none of them.
+module _ (At : ℕ → Type 0) (p : ℕ) where
+  at-port : (k : ℕ) → At k → (eqb p k ≡ false → At p) → At p
+  at-port k h f = go (eqb p k) refl
+    where
+      go : (q : Bool) → eqb p k ≡ q → At p
+      go true q = subst At (sym (eqb-true p k q)) h
+      go false q = f q
+
+no-timer : (p : ℕ) → eqb p 16 ≡ false → eqb p 17 ≡ false → eqb p 18 ≡ false → eqb p 19 ≡ false → timerPort p ≡ false
+no-timer p a b c d = go (leb 16 p) refl
+  where
+    go : (q : Bool) → leb 16 p ≡ q → (q and ltb p 20) ≡ false
+    go true q = le-ltb p 20 (omega (arith, leb-true 16 p q, eqb-false p 16 a, eqb-false p 17 b, eqb-false p 18 c, eqb-false p 19 d))
+    go false q = refl
+
+no-icu : (p : ℕ) → eqb p 0 ≡ false → eqb p 1 ≡ false → icuPort p ≡ false
+no-icu p a b = le-ltb p 2 (omega (arith, eqb-false p 0 a, eqb-false p 1 b))
+
+module _ (b : Board) (x : ℕ) where
+  -- Row 3, writes and reads.
+  abbrev WriteTurn : ℕ → Type 0
+  WriteTurn p =
+      (if eqb p 0 then not (bitOf x 4) and Table.unready (b .icu)
+      else if eqb p 1 then Table.unstarted (b .icu)
+      else if eqb p 16 then Table.modeless (b .timer) 0
+      else if eqb p 17 then Table.modeless (b .timer) 1
+      else if eqb p 18 then Table.modeless (b .timer) 2
+      else eqb p 19 and Table.latchesModeless (b .timer) x)
+      ≡ (if icuPort p then Ruled.earlyWord (b .icu) (a0 p) x else timerPort p and Ruled.earlyCount (b .timer) (p % 4) x)
+
+  write-turn : (p : ℕ) → WriteTurn p
+  unfolding among
+  write-turn p =
+      at-port WriteTurn p 0 refl
+      (λ a. at-port WriteTurn p 1 (ap not (three-of (eqb (b .icu .stage) 1) (eqb (b .icu .stage) 2) (eqb (b .icu .stage) 3)))
+      (λ c. at-port WriteTurn p 16 (same-modeless (b .timer) 0)
+      (λ d. at-port WriteTurn p 17 (same-modeless (b .timer) 1)
+      (λ e. at-port WriteTurn p 18 (same-modeless (b .timer) 2)
+      (λ f. at-port WriteTurn p 19
+      (ap (λ (q : Bool). not (eqb (x / 64) 3) and eqb (x / 16 % 4) 0 and q) (same-modeless (b .timer) (x / 64)))
+      (λ g. rw (a, c, d, e, f, g, no-icu p a c, no-timer p d e f g) refl))))))
+
+  abbrev ReadTurn : ℕ → Type 0
+  ReadTurn p =
+      (if among p (0 ∷ 1 ∷ []) then Table.unready (b .icu)
+      else if eqb p 16 then Table.modeless (b .timer) 0
+      else if eqb p 17 then Table.modeless (b .timer) 1
+      else eqb p 18 and Table.modeless (b .timer) 2)
+      ≡ (if icuPort p then not (ready (b .icu)) else timerPort p and not (eqb (p % 4) 3) and Ruled.modeless (b .timer) (p % 4))
+
+  read-turn : (p : ℕ) → ReadTurn p
+  unfolding among
+  read-turn p =
+      at-port ReadTurn p 0 refl
+      (λ a. at-port ReadTurn p 1 refl
+      (λ c. at-port ReadTurn p 16 (same-modeless (b .timer) 0)
+      (λ d. at-port ReadTurn p 17 (same-modeless (b .timer) 1)
+      (λ e. at-port ReadTurn p 18 (same-modeless (b .timer) 2)
+      (λ f. at-port ReadTurn p 19 refl (λ g. rw (a, c, d, e, f, no-icu p a c, no-timer p d e f g) refl))))))
+
+  -- Row 6.
+  same-one : (c : Counter) → Table.completesOne c x ≡ Ruled.completesOne c x
+  same-one c = ap (λ (q : Bool). eqb (c .mode) 2 and (if eqb (c .format) 1 then eqb x 1 else q)) (go (eqb (c .format) 2))
+    where
+      even : eqb (x * 256) 1 ≡ false
+      even = ne-eqb (x * 256) 1 (omega arith)
+
+      go : (q : Bool)
+          → (not q and c .half and eqb (c .low + x * 256) 1)
+          ≡ (if q then eqb (x * 256) 1 else c .half and eqb (c .low + x * 256) 1)
+      go true = sym even
+      go false = refl
+
+  abbrev One : ℕ → Type 0
+  One p =
+      (if eqb p 16 then Table.completesOne (at (b .timer) 0) x
+      else if eqb p 17 then Table.completesOne (at (b .timer) 1) x
+      else eqb p 18 and Table.completesOne (at (b .timer) 2) x)
+      ≡ (timerPort p and not (eqb (p % 4) 3) and Ruled.completesOne (at (b .timer) (p % 4)) x)
+
+  write-one : (p : ℕ) → One p
+  write-one p =
+      at-port One p 16 (same-one (at (b .timer) 0))
+      (λ d. at-port One p 17 (same-one (at (b .timer) 1))
+      (λ e. at-port One p 18 (same-one (at (b .timer) 2))
+      (λ f. at-port One p 19 refl (λ g. rw (d, e, f, no-timer p d e f g) refl))))
+
+-- Row 4, writes and reads.
+module _ (x : ℕ) where
+  abbrev Unbuilt : ℕ → Type 0
+  Unbuilt p =
+      (if eqb p 0 then Table.unbuiltWord x
+      else if eqb p 19 then Table.unbuiltControl x
+      else if eqb p 32 then bitOf x 1
+      else if eqb p 40 then Table.unbuiltDeviceControl x
+      else if eqb p 41 then not (eqb x 0)
+      else if eqb p 42 then Table.unbuiltMode x
+      else among p (44 ∷ 45 ∷ 46 ∷ []))
+      ≡ (if icuPort p then Ruled.unbuiltWord (a0 p) x
+      else if timerPort p then eqb (p % 4) 3 and Ruled.unbuiltControl x
+      else dmaPort p and Ruled.unbuiltRegister (p % 16) x)
+
+  -- The registers that are neither named by the row nor past the others: in each the two agree by computing.
+  write-unbuilt : (p : ℕ) → Unbuilt p
+  unfolding among every
+  write-unbuilt p =
+      at-port Unbuilt p 0 refl
+      (λ a. at-port Unbuilt p 1 refl
+      (λ c. at-port Unbuilt p 16 refl
+      (λ d. at-port Unbuilt p 17 refl
+      (λ e. at-port Unbuilt p 18 refl
+      (λ f. at-port Unbuilt p 19 (same-control x)
+      (λ g. at-port Unbuilt p 32 refl
+      (λ p32. at-port Unbuilt p 40 (same-device x)
+      (λ p40. at-port Unbuilt p 41 refl
+      (λ p41. at-port Unbuilt p 42 (same-unbuilt x)
+      (λ p42. rw (a, g, p32, p40, p41, p42, no-icu p a c, no-timer p d e f g) (others p32 p40 p41 p42 (leb 32 p) (ltb p 48) refl refl)))))))))))
+    where
+      -- Of the registers that are left, C, D and E.
+      last-three : (i : ℕ) → i < 16 → among (32 + i) (44 ∷ 45 ∷ 46 ∷ []) ≡ (leb 12 i and ltb i 15)
+      last-three i h = alike (λ i. among (32 + i) (44 ∷ 45 ∷ 46 ∷ [])) (λ i. leb 12 i and ltb i 15) 16 tt i h
+
+      others : eqb p 32 ≡ false → eqb p 40 ≡ false → eqb p 41 ≡ false → eqb p 42 ≡ false
+          → (u v : Bool)
+          → leb 32 p ≡ u
+          → ltb p 48 ≡ v
+          → among p (44 ∷ 45 ∷ 46 ∷ []) ≡ ((u and v) and Ruled.unbuiltRegister (p % 16) x)
+      others h0 h8 h9 h10 true true l u =
+          let i = leb-true 32 p l in
+          let j = ltb-true p 48 u in
+          let e : 32 + p % 16 ≡ p = omega arith in
+          rw (
+            ne-eqb (p % 16) 0 (omega (arith, eqb-false p 32 h0)),
+            ne-eqb (p % 16) 8 (omega (arith, eqb-false p 40 h8)),
+            ne-eqb (p % 16) 9 (omega (arith, eqb-false p 41 h9)),
+            ne-eqb (p % 16) 10 (omega (arith, eqb-false p 42 h10)),
+          )
+          (ap (λ (y : ℕ). among y (44 ∷ 45 ∷ 46 ∷ [])) (sym e) ∙ last-three (p % 16) (omega arith))
+      others h0 h8 h9 h10 true false l u =
+          let j = ltb-false p 48 u in
+          rw (ne-eqb p 44 (omega arith), ne-eqb p 45 (omega arith), ne-eqb p 46 (omega arith)) refl
+      others h0 h8 h9 h10 false v l u =
+          let j = leb-false 32 p l in
+          rw (ne-eqb p 44 (omega arith), ne-eqb p 45 (omega arith), ne-eqb p 46 (omega arith)) refl
+
+abbrev ReadUnbuilt : ℕ → Type 0
+ReadUnbuilt p = among p (44 ∷ 45 ∷ 46 ∷ []) ≡ (dmaPort p and leb 12 (p % 16) and ltb (p % 16) 15)
+
+read-unbuilt : (p : ℕ) → ReadUnbuilt p
+unfolding among
+read-unbuilt p =
+    at-port ReadUnbuilt p 44 refl
+    (λ a. at-port ReadUnbuilt p 45 refl
+    (λ b. at-port ReadUnbuilt p 46 refl (λ c. rw (a, b, c) (none a b c (leb 32 p) (ltb p 48) (leb 12 (p % 16)) refl refl refl))))
+  where
+    none : eqb p 44 ≡ false → eqb p 45 ≡ false → eqb p 46 ≡ false
+        → (u v w : Bool)
+        → leb 32 p ≡ u
+        → ltb p 48 ≡ v
+        → leb 12 (p % 16) ≡ w
+        → false ≡ ((u and v) and w and ltb (p % 16) 15)
+    none a b c true true true l u k =
+        let i = leb-true 32 p l in
+        let j = ltb-true p 48 u in
+        let n = leb-true 12 (p % 16) k in
+        sym (le-ltb (p % 16) 15 (omega (arith, eqb-false p 44 a, eqb-false p 45 b, eqb-false p 46 c)))
+    none a b c true true false l u k = refl
+    none a b c true false w l u k = refl
+    none a b c false v w l u k = refl
+
+-- The whole table.
+module _ (b : Board) (r : List ℕ) where
+  same-held : Table.held b r ≡ Ruled.held b r
+  unfolding Table.held Ruled.held
+  same-held = refl
+
+  same-turn : Table.outOfTurn b r ≡ Ruled.outOfTurn b r
+  unfolding Table.outOfTurn Ruled.outOfTurn
+  same-turn =
+      rows (eqb (getD r 0 0) 1) (write-turn b (getD r 2 0) (getD r 1 0)) (rows (eqb (getD r 0 0) 2) (read-turn b (getD r 2 0) (getD r 1 0)) refl)
+
+  same-unbuilt-row : Table.notBuilt r ≡ Ruled.notBuilt b r
+  unfolding Table.notBuilt Ruled.notBuilt
+  same-unbuilt-row =
+      rows (eqb (getD r 0 0) 1) (write-unbuilt (getD r 2 0) (getD r 1 0)) (ap (λ (q : Bool). eqb (getD r 0 0) 2 and q) (read-unbuilt (getD r 1 0)))
+
+  same-int : Table.intLow b r ≡ Ruled.intLow b r
+  unfolding Table.intLow Ruled.intLow
+  same-int = refl
+
+  same-count : Table.countsOne b r ≡ Ruled.countsOne b r
+  unfolding Table.countsOne Ruled.countsOne
+  same-count = ap (λ (q : Bool). eqb (getD r 0 0) 1 and q) (write-one b (getD r 2 0) (getD r 1 0))
+
+  pub status-due : (m : List ℕ) → getD (stepOf b r m .answer) 0 0 ≡ Table.due b r
+  status-due m =
+      status-ruled b r m ∙ sym (rw (same-formed r, same-held, same-turn, same-unbuilt-row, same-int, same-count) refl)

@@ -1,0 +1,254 @@
+-- One record of a tape, seen from the DMA chip.
+use mathlib.Core.Path.{_≡_, refl, sym, ap, ap₂, _∙_}
+use mathlib.Core.Logic.{_≢_}
+use mathlib.Core.List.{List}
+use mathlib.Core.Bool.{Bool, true, false, not, true≢false, false≢true}
+use Prim.Native.Nat.{ℕ, zero, suc, _+_, _*_, _/_, _<_, _%_}
+use native.Mathlib.Omega.{arith}
+use lib.Dec.{eqb, ltb, leb}
+use lib.ListN.{getD, length}
+use borrow.Author.Tests.{eqb-true, eqb-false, ltb-true, leb-true}
+use Rattle.bits.specs.Choice.{if_then_else_, _and_, _or_}
+use Rattle.tape.specs.declared.Operation.{Operation}
+use Rattle.tape.specs.declared.Operation.the-variants.{Reset, Write, Read, Intp, Gates, Requests, Acknowledge, Advance, Cycle}
+use Rattle.tape.specs.declared.Decoded.{Decoded}
+use Rattle.tape.specs.declared.Decoded.the-variants.{Asked, Malformed}
+use Rattle.tape.specs.Records.{byte, writable, dmaPort, decodeOf, pulseCount}
+use Rattle.tape.specs.Answers.{twelve, answerOf}
+use Rattle.timer.specs.Timer.{writesOf, readsOf}
+use Rattle.dma.specs.declared.Dma.{Dma}
+use Rattle.dma.specs.declared.Got.{Got}
+use Rattle.dma.specs.Fields.{chan, served}
+use Rattle.dma.specs.Registers as DmaRegisters
+use Rattle.dma.specs.Report.{Told}
+use Rattle.dma.specs.Cycle.{writes, pokeOf, single, ready, channelAt, winnerFrom, winner, lastOf, releases, nothingOf, grantedOf, releasedOf, unitOf, cycleBy}
+use Rattle.dma.specs.Cycle as DmaCycle
+use Rattle.board.specs.declared.Board.{Board}
+use Rattle.board.specs.Operations.{Outcome, refused, icuTold, icuWritten, a0, payloadOf, timerWritten, timerShown, dmaWritten, dmaShown, writeOf, readOf, cycleOf, cycleMemory}
+use Rattle.board.specs.Wiring.{levelsOf, rewired}
+use Rattle.board.specs.Advance.{advanceOf}
+use Rattle.board.specs.Step.{executeOf, memoryAfter, blocked, outcomeOf, memoryOf, answeredOf, stepOf, stepMemory}
+use Rattle.tape.proofs.Decodes.{either, Decodes, malformed, reset, write, read, intp, gates, requests, acknowledge, advance, cycle, decodes}
+use Rattle.promises.specs.Words.{disturbs}
+use Rattle.promises.proofs.Sound.{Sound, cycle-sound, requests-sound, read-sound, write-sound, reset-sound}
+use Rattle.promises.proofs.Seen.{Seen, still, unit, same, Serves, starts}
+
+-- A bus cycle and its answer.
+unmasked : (x y : Bool) → (if x then false else y) ≡ true → x ≡ false
+unmasked true y h = absurd (false≢true h)
+unmasked false y h = refl
+
+is-ready : (d : Dma) (n : ℕ) → ready d n ≡ true → chan d n .masked ≡ false
+unfolding ready
+is-ready d n h = unmasked _ _ h
+
+won : (d : Dma) (k left : ℕ) → eqb (winnerFrom d k left) 4 ≡ false → Serves d (winnerFrom d k left)
+unfolding winnerFrom
+won d k zero h = absurd (true≢false h)
+won d k (suc left) h = at (ready d (channelAt d k)) refl (won d (suc k) left) h
+  where
+    at : (q : Bool)
+        → ready d (channelAt d k) ≡ q
+        → (eqb (winnerFrom d (suc k) left) 4 ≡ false → Serves d (winnerFrom d (suc k) left))
+        → eqb (if q then channelAt d k else winnerFrom d (suc k) left) 4 ≡ false
+        → Serves d (if q then channelAt d k else winnerFrom d (suc k) left)
+    at true q ih h = starts (is-ready d _ q)
+    at false q ih h = ih h
+
+joined : (a : ℕ) → a < 16777216 → a % 256 + a / 256 % 256 * 256 + a / 65536 % 256 * 65536 + a / 16777216 % 256 * 16777216 ≡ a
+joined a h = omega arith
+
+abbrev pub cycleAnswer : ℕ → Told → List ℕ
+cycleAnswer l t = answerOf 0 6 (t .byte) l (twelve (payloadOf t))
+
+seen-cycle : (d : Dma) (m : List ℕ) (e : Bool) (x l : ℕ) → Sound d
+    → Seen d m (DmaCycle.cycleOf d e x m .dma) (DmaCycle.cycleOf d e x m .memory) (cycleAnswer l (DmaCycle.cycleOf d e x m .report))
+unfolding DmaCycle.cycleOf nothingOf grantedOf releasedOf unitOf answerOf
+seen-cycle d m e x l s = at (d .serving) (releases d) (d .disabled) (eqb (winner d) 4) refl refl
+  where
+    p : ℕ
+    p = served d .current .address
+
+    data-of : (w : Bool) (y : ℕ) → (if w then pokeOf m p x else m) ≡ (if w then pokeOf m p (if w then x else y) else m)
+    data-of true y = refl
+    data-of false y = refl
+
+    more-of : (z k : Bool) → eqb (served d .current .count) 0 ≡ z → (z or k) ≡ false → served d .current .count ≢ 0
+    more-of true k q h = absurd (true≢false h)
+    more-of false k q h = eqb-false _ _ q
+
+    on-of : (z k : Bool) → not (z or k) ≡ true → (z ≡ false) × (d .channel ≡ (if z or k then 0 else d .channel))
+    on-of true k h = absurd (false≢true h)
+    on-of false true h = absurd (false≢true h)
+    on-of false false h = (refl, refl)
+
+    at : (v r k w : Bool) → d .serving ≡ v → eqb (winner d) 4 ≡ w
+        → Seen d m (cycleBy d e x m v r k w .dma) (cycleBy d e x m v r k w .memory) (cycleAnswer l (cycleBy d e x m v r k w .report))
+    at true true k w v q = still refl refl refl (λ h. absurd (false≢true h))
+    at true false k w v q =
+        unit (lastOf (served d) e) v (more-of (eqb (served d .current .count) 0) e refl) refl (data-of (writes (served d)) _) refl refl
+        (joined p (s .good (d .channel) .address))
+        (on-of (lastOf (served d) e) (single (served d)))
+    at false r true w v q = same refl refl refl refl refl
+    at false r false true v q = same refl refl refl refl refl
+    at false r false false v q = still refl refl refl (λ h. won d 0 4 q)
+
+-- A port of the DMA chip, by its high digit.
+port-of : (p : ℕ) → writable p ≡ true → eqb (p / 16) 0 ≡ false → eqb (p / 16) 1 ≡ false → dmaPort p ≡ true
+unfolding writable
+port-of p h z o = at (ltb p 2) (leb 16 p) (ltb p 20) (dmaPort p) (not (eqb p 39) and not (eqb p 43)) refl refl refl h
+  where
+    at : (a b c u v : Bool) → ltb p 2 ≡ a → leb 16 p ≡ b → ltb p 20 ≡ c → (a or (b and c) or (u and v)) ≡ true → u ≡ true
+    at true b c u v x y w h = absurd (omega (arith, ltb-true p 2 x, eqb-false (p / 16) 0 z))
+    at false true true u v x y w h = absurd (omega (arith, leb-true 16 p y, ltb-true p 20 w, eqb-false (p / 16) 1 o))
+    at false true false true v x y w h = refl
+    at false true false false v x y w h = h
+    at false false c true v x y w h = refl
+    at false false c false v x y w h = h
+
+-- Channels and service are as they were. (A record: three equations side by side, carried through a chain of cases, are dear to check.)
+record Unmoved (d e : Dma) : Type 0 where
+  channels : e .channels ≡ d .channels
+  serving : e .serving ≡ d .serving
+  channel : e .channel ≡ d .channel
+
+as-it-was : {d e : Dma} → e .channels ≡ d .channels → e .serving ≡ d .serving → e .channel ≡ d .channel → Unmoved d e
+as-it-was a b c = record { channels = a; serving = b; channel = c }
+
+-- A read of a register leaves them.
+read-still : (d : Dma) (p : ℕ) → Unmoved d (DmaRegisters.readOf d p .dma)
+unfolding DmaRegisters.readOf
+read-still d p =
+    either P (eqb n 0) (λ _. as-it-was refl refl refl)
+    (λ _. either P (eqb n 1) (λ _. as-it-was refl refl refl)
+    (λ _. either P (leb n 6) (λ _. as-it-was refl refl refl)
+    (λ _. either P (eqb n 7) (λ _. as-it-was refl refl refl)
+    (λ _. either P (eqb n 8) (λ _. as-it-was refl refl refl)
+    (λ _. either P (eqb n 9) (λ _. as-it-was refl refl refl)
+    (λ _. either P (eqb n 10) (λ _. as-it-was refl refl refl)
+    (λ _. either P (eqb n 11) (λ _. as-it-was refl refl refl)
+    (λ _. either P (ltb n 15) (λ _. as-it-was refl refl refl) (λ _. as-it-was refl refl refl)))))))))
+  where
+    n : ℕ
+    n = p % 16
+
+    P : Got → Type 0
+    P g = Unmoved d (g .dma)
+
+module _ (b : Board) (r m : List ℕ) where
+  abbrev told : Outcome → List ℕ
+  told o = answerOf (o .status) (byte r 0) (o .byte) (levelsOf (o .board)) (o .payload)
+
+  abbrev Fine : Outcome → List ℕ → Type 0
+  Fine o l = disturbs r (told o) ≡ false → Seen (b .dma) m (o .board .dma) l (told o)
+
+  abbrev Stays : Outcome → Type 0
+  Stays o = Unmoved (b .dma) (o .board .dma)
+
+  timer-write : (p x : ℕ) → Stays (timerWritten b p x)
+  unfolding timerWritten rewired
+  timer-write p x = either Stays (eqb (writesOf (b .timer) p x .status) 0) (λ _. as-it-was refl refl refl) (λ _. as-it-was refl refl refl)
+
+  any-read : (p : ℕ) → Stays (readOf b p)
+  unfolding readOf timerShown dmaShown
+  any-read p =
+      either Stays (eqb (p / 16) 0) (λ _. as-it-was refl refl refl)
+      (λ _. either Stays (eqb (p / 16) 1)
+      (λ _. either Stays (eqb (readsOf (b .timer) p .status) 0) (λ _. as-it-was refl refl refl) (λ _. as-it-was refl refl refl))
+      (λ _. either Stays (eqb (DmaRegisters.readOf (b .dma) p .status) 0) (λ _. read-still (b .dma) p) (λ _. as-it-was refl refl refl)))
+
+  -- An operation other than a cycle that leaves channels and service as they are: its answer reports no unit.
+  plain : (n : ℕ) (o : Outcome)
+      → eqb (byte r 0) n ≡ true
+      → eqb n 6 ≡ false
+      → Stays o
+      → Fine o m
+  unfolding answerOf
+  plain n o h k u c = same (u .channels) (u .serving) (u .channel) refl (at (eqb (o .status) 0) (rw (eqb-true (byte r 0) n h) k))
+    where
+      at : (u : Bool) → eqb (byte r 0) 6 ≡ false → (u and eqb (byte r 0) 6 and eqb (getD (o .payload) 0 0) 2) ≡ false
+      at true q = rw q
+      at false q = refl
+
+  -- A record that needs the bus while a channel is served changes nothing.
+  held : (o : Operation) → Fine (executeOf b o m) (memoryAfter b o m) → Fine (outcomeOf b (Asked o) m) (memoryOf b (Asked o) m)
+  unfolding outcomeOf memoryOf answerOf
+  held o f = at (blocked b o)
+    where
+      at : (q : Bool) → Fine (if q then refused 1 b else executeOf b o m) (if q then m else memoryAfter b o m)
+      at true = λ c. same refl refl refl refl refl
+      at false = f
+
+  -- A write to the DMA chip that is accepted disturbs it; one that is refused leaves it.
+  dma-write : eqb (byte r 0) 1 ≡ true → dmaPort (byte r 1) ≡ true → Fine (dmaWritten b (byte r 1) (byte r 2)) m
+  unfolding dmaWritten answerOf
+  dma-write o p =
+      either (λ (x : Outcome). Fine x m) (eqb (DmaRegisters.writeOf (b .dma) (byte r 1) (byte r 2) .status) 0)
+      (λ _ c. absurd (true≢false (sym (ap₂ (λ (u v : Bool). eqb (byte r 0) 0 or (u and v)) o p ∙ at (eqb (byte r 0) 0)) ∙ c)))
+      (λ _. plain 1 (refused (DmaRegisters.writeOf (b .dma) (byte r 1) (byte r 2) .status) b) o refl (as-it-was refl refl refl))
+    where
+      at : (u : Bool) → (u or true) ≡ true
+      at true = refl
+      at false = refl
+
+  by : (x : Decoded) → Sound (b .dma) → Decodes r x → Fine (outcomeOf b x m) (memoryOf b x m)
+  unfolding outcomeOf memoryOf executeOf memoryAfter answerOf writeOf rewired advanceOf DmaRegisters.requestedOf cycleOf cycleMemory
+  by x s malformed = λ c. same refl refl refl refl refl
+  by x s (reset o) = held Reset (λ c. absurd (true≢false (sym (ap (λ (u : Bool). u or (eqb (byte r 0) 1 and dmaPort (byte r 1))) o) ∙ c)))
+  by x s (write o p) =
+      held (Write (byte r 1) (byte r 2))
+      (either (λ (y : Outcome). Fine y m) (eqb (byte r 1 / 16) 0) (λ _. plain 1 (icuTold b (icuWritten b (a0 (byte r 1)) (byte r 2))) o refl (as-it-was refl refl refl))
+      (λ z. either (λ (y : Outcome). Fine y m) (eqb (byte r 1 / 16) 1)
+      (λ _. plain 1 (timerWritten b (byte r 1) (byte r 2)) o refl (timer-write (byte r 1) (byte r 2)))
+      (λ w. dma-write o (port-of (byte r 1) p z w))))
+  by x s (read o p) = held (Read (byte r 1)) (plain 2 (readOf b (byte r 1)) o refl (any-read (byte r 1)))
+  by x s (intp o l) = held (Intp (byte r 2)) (plain 3 (executeOf b (Intp (byte r 2)) m) o refl (as-it-was refl refl refl))
+  by x s (gates o l) = held (Gates (byte r 2)) (plain 3 (executeOf b (Gates (byte r 2)) m) o refl (as-it-was refl refl refl))
+  by x s (requests o l) = held (Requests (byte r 2)) (plain 3 (executeOf b (Requests (byte r 2)) m) o refl (as-it-was refl refl refl))
+  by x s (acknowledge o) = held Acknowledge (plain 4 (executeOf b Acknowledge m) o refl (as-it-was refl refl refl))
+  by x s (advance o l) = held (Advance (pulseCount r)) (plain 5 (executeOf b (Advance (pulseCount r)) m) o refl (as-it-was refl refl refl))
+  by x s (cycle o) =
+      held (Cycle (eqb (byte r 1) 1) (byte r 2))
+      (λ c. rw (eqb-true (byte r 0) 6 o) (seen-cycle (b .dma) m (eqb (byte r 1) 1) (byte r 2) _ s))
+
+  pub seen-step : Sound (b .dma) → disturbs r (stepOf b r m .answer) ≡ false → Seen (b .dma) m (stepOf b r m .board .dma) (stepMemory b r m) (stepOf b r m .answer)
+  unfolding stepOf stepMemory answeredOf
+  seen-step s c = by (decodeOf r) s (decodes r) c
+
+  -- The chip stays sound, through resets and writes too.
+  abbrev Kept : Outcome → Type 0
+  Kept o = Sound (o .board .dma)
+
+  execute-sound : (o : Operation) → Sound (b .dma) → Kept (executeOf b o m)
+  unfolding executeOf writeOf readOf timerWritten timerShown dmaWritten dmaShown rewired advanceOf cycleOf
+  execute-sound Reset s = reset-sound
+  execute-sound (Write p x) s =
+      either Kept (eqb (p / 16) 0) (λ _. s)
+      (λ _. either Kept (eqb (p / 16) 1)
+      (λ _. either Kept (eqb (writesOf (b .timer) p x .status) 0) (λ _. s) (λ _. s))
+      (λ _. either Kept (eqb (DmaRegisters.writeOf (b .dma) p x .status) 0) (λ _. write-sound (b .dma) s p x) (λ _. s)))
+  execute-sound (Read p) s =
+      either Kept (eqb (p / 16) 0) (λ _. s)
+      (λ _. either Kept (eqb (p / 16) 1)
+      (λ _. either Kept (eqb (readsOf (b .timer) p .status) 0) (λ _. s) (λ _. s))
+      (λ _. either Kept (eqb (DmaRegisters.readOf (b .dma) p .status) 0) (λ _. read-sound (b .dma) s p) (λ _. s)))
+  execute-sound (Intp l) s = s
+  execute-sound (Gates l) s = s
+  execute-sound (Requests l) s = requests-sound (b .dma) s l
+  execute-sound Acknowledge s = s
+  execute-sound (Advance n) s = s
+  execute-sound (Cycle e x) s = cycle-sound (b .dma) s e x m
+
+  outcome-sound : (x : Decoded) → Sound (b .dma) → Kept (outcomeOf b x m)
+  unfolding outcomeOf
+  outcome-sound Malformed s = s
+  outcome-sound (Asked o) s = either Kept (blocked b o) (λ _. s) (λ _. execute-sound o s)
+
+  pub step-sound : Sound (b .dma) → Sound (stepOf b r m .board .dma)
+  unfolding stepOf answeredOf
+  step-sound s = outcome-sound (decodeOf r) s
+
+  -- Every answer is sixteen bytes.
+  pub answer-length : length (stepOf b r m .answer) ≡ 16
+  unfolding stepOf answeredOf answerOf
+  answer-length = refl

@@ -1,0 +1,369 @@
+-- The level that an acknowledge takes, the channel that is granted, and a reset.
+use mathlib.Core.Path.{_≡_, refl, sym, ap, _∙_}
+use mathlib.Core.Logic.{_≢_, _⊎_, inl, inr}
+use mathlib.Core.List.{List, [], _∷_}
+use mathlib.Core.Bool.{Bool, true, false, not, true≢false}
+use Prim.Native.Nat.{ℕ, zero, suc, _+_, _-_, _*_, _/_, _%_, _<_}
+use native.Mathlib.Omega.{arith}
+use native.Mathlib.Nat.{mod-eq-of-lt}
+use lib.Dec.{eqb, ltb}
+use lib.ListN.{getD}
+use borrow.Author.Tests.{ltb-true, ltb-false, eq-eqb, ne-eqb}
+use Rattle.bits.specs.Choice.{if_then_else_, _and_, _or_}
+use Rattle.bits.specs.Bits.{bitOf, withOf, withoutOf}
+use Rattle.tape.specs.Records.{unused, decodeOf}
+use Rattle.tape.specs.Answers.{twelve, answerOf}
+use Rattle.icu.specs.declared.Icu.{Icu}
+use Rattle.icu.specs.Fields.{edges-is, isr-is, lowest-is}
+use Rattle.icu.specs.Answers.{Told, telling, calling}
+use Rattle.icu.specs.Words.{ready, ag4}
+use Rattle.icu.specs.Requests.{askedOf, outranksAll, intOf}
+use Rattle.icu.specs.Service.{takes, servedOf, vectorOf, callLowOf, acknowledgeOf}
+use Rattle.dma.specs.declared.Dma.{Dma}
+use Rattle.dma.specs.Fields.{chan}
+use Rattle.dma.specs.Cycle as DmaCycle
+use Rattle.dma.specs.Cycle.{channelAt, winnerFrom, winner, nothingOf, grantedOf}
+use Rattle.board.specs.declared.Board.{Board}
+use Rattle.board.specs.declared.Stepped.{Stepped}
+use Rattle.board.specs.Operations.{Outcome, done, refused, icuTold, payloadOf, cycleOf, cycleMemory}
+use Rattle.board.specs.Wiring.{freshOf, resetOf, icu-is, dma-is, lines, int}
+use Rattle.board.specs.Step.{executeOf, memoryAfter, blocked, outcomeOf, memoryOf, answeredOf, stepOf, stepMemory}
+use Rattle.promises.specs.Records.{resetting, acknowledging, cyclingWith}
+use Rattle.promises.specs.Words.{Highest, askedFor, ahead, asks, Foremost}
+use Rattle.promises.specs.Reached.{Reached}
+use Rattle.promises.specs.Meant.{Takes, Grants}
+use Rattle.promises.proofs.Logic.{both-left, both-right}
+use Rattle.promises.proofs.Runs.{reached-sound}
+use Rattle.promises.proofs.IcuKept.{found}
+use Rattle.promises.proofs.BoardKept.{reached-held}
+use Rattle.promises.proofs.Sizes.{reached-typed}
+use Rattle.promises.proofs.Highest.{highest-is, highest-of, cleared, added}
+use Rattle.promises.proofs.Requested.{asked-bit}
+
+-- What the chip tells.
+module _ (c : Icu) (l : ℕ) (set : ready c ≡ true) (high : intOf c l ≡ true) where
+  abbrev tells : Bool → Told
+  tells v = if v then telling (servedOf c (takes c l)) (vectorOf c (takes c l)) else calling (servedOf c (takes c l)) (callLowOf c (takes c l)) (c .iw2)
+
+  told : acknowledgeOf c l ≡ tells (c .vector)
+  unfolding acknowledgeOf
+  told = rw (set, high)
+
+  told-icu : acknowledgeOf c l .icu ≡ servedOf c (takes c l)
+  told-icu = ap (λ (t : Told). t .icu) told ∙ go (c .vector)
+    where
+      go : (v : Bool) → tells v .icu ≡ servedOf c (takes c l)
+      go true = refl
+      go false = refl
+
+  told-status : acknowledgeOf c l .status ≡ 0
+  told-status = ap (λ (t : Told). t .status) told ∙ go (c .vector)
+    where
+      go : (v : Bool) → tells v .status ≡ 0
+      go true = refl
+      go false = refl
+
+  told-call : c .vector ≡ false → acknowledgeOf c l .payload ≡ 205 ∷ callLowOf c (takes c l) ∷ c .iw2 ∷ []
+  told-call v = ap (λ (t : Told). t .payload) told ∙ ap (λ (q : Bool). tells q .payload) v
+
+  told-vector : c .vector ≡ true → acknowledgeOf c l .byte ≡ vectorOf c (takes c l)
+  told-vector v = ap (λ (t : Told). t .byte) told ∙ ap (λ (q : Bool). tells q .byte) v
+
+-- The record, with the bus free.
+acknowledged : (b : Board) (m : List ℕ) → b .dma .serving ≡ false
+    → stepOf b acknowledging m ≡ answeredOf 4 (icuTold b (acknowledgeOf (b .icu) (lines b)))
+unfolding stepOf decodeOf unused outcomeOf executeOf blocked
+acknowledged b m free = ap (answeredOf 4) (go (b .dma .serving) free)
+  where
+    o : Outcome
+    o = icuTold b (acknowledgeOf (b .icu) (lines b))
+
+    go : (q : Bool) → q ≡ false → (if q and true then refused 1 b else o) ≡ o
+    go true h = absurd (true≢false h)
+    go false h = refl
+
+-- What becomes of the chip, level by level.
+module _ (c : Icu) (n : ℕ) (h : n < 8) where
+  abbrev serves : Bool → Bool → Icu
+  serves sfi rotates =
+      if sfi then
+      (if rotates then lowest-is n (edges-is (withoutOf (c .edges) n) c) else edges-is (withoutOf (c .edges) n) c)
+      else isr-is (withOf (c .isr) n) (edges-is (withoutOf (c .edges) n) c)
+
+  served-edges : c .edges < 256 → (k : ℕ) → k < 8 → bitOf (servedOf c n .edges) k ≡ (bitOf (c .edges) k and not (eqb k n))
+  unfolding servedOf
+  served-edges e k l = ap (λ (x : ℕ). bitOf x k) (go (c .sfi) (c .rotation)) ∙ cleared (c .edges) n k e h l
+    where
+      go : (p q : Bool) → serves p q .edges ≡ withoutOf (c .edges) n
+      go true true = refl
+      go true false = refl
+      go false q = refl
+
+  served-isr : c .isr < 256 → (k : ℕ) → k < 8 → bitOf (servedOf c n .isr) k ≡ (bitOf (c .isr) k or (not (c .sfi) and eqb k n))
+  unfolding servedOf
+  served-isr e k l = go (c .sfi) (c .rotation)
+    where
+      none : (p : Bool) → p ≡ (p or false)
+      none true = refl
+      none false = refl
+
+      go : (p q : Bool) → bitOf (serves p q .isr) k ≡ (bitOf (c .isr) k or (not p and eqb k n))
+      go true true = none (bitOf (c .isr) k)
+      go true false = none (bitOf (c .isr) k)
+      go false q = added (c .isr) n k e h l
+
+  served-lowest : servedOf c n .lowest ≡ (if c .sfi and c .rotation then n else c .lowest)
+  unfolding servedOf
+  served-lowest = go (c .sfi) (c .rotation)
+    where
+      go : (p q : Bool) → serves p q .lowest ≡ (if p and q then n else c .lowest)
+      go true true = refl
+      go true false = refl
+      go false q = refl
+
+pub level-taken : {b : Board} → Reached b → (m : List ℕ) → b .dma .serving ≡ false → int b ≡ true
+    → (n : ℕ) × Highest (askedFor b) (b .icu .lowest) n × Takes b m n
+unfolding intOf vectorOf callLowOf answeredOf answerOf
+level-taken {b} r m free high =
+    let c = b .icu in
+    let set = both-left (ready c) _ high in
+    let low = reached-held r .icu .lowest in
+    let f = found (λ n. bitOf (askedOf c (lines b)) n and outranksAll c n) 8 (both-right (ready c) _ high) in
+    let q = highest-of (askedOf c (lines b)) (c .lowest) (f .0) low (f .1) (both-left (bitOf (askedOf c (lines b)) (f .0)) (outranksAll c (f .0)) (f .2)) in
+    let n = q .0 in
+    let h = q .1 in
+    let t = reached-typed r in
+    let a = acknowledged b m free in
+    let e : takes c (lines b) ≡ n = highest-is (askedOf c (lines b)) (c .lowest) n low h in
+    let i : takes c (lines b) % 8 ≡ n = ap (λ (x : ℕ). x % 8) e ∙ mod-eq-of-lt (h .level) in
+    let s : stepOf b acknowledging m .board ≡ icu-is (servedOf c n) b =
+    ap (λ (o : Stepped). o .board) a ∙ ap (λ (i : Icu). icu-is i b) (told-icu c (lines b) set high ∙ ap (servedOf c) e) in (
+      n,
+      record {
+        level = h .level;
+        chosen = sym (asked-bit r n (h .level)) ∙ h .chosen;
+        over = λ k l s ne. h .over k l (asked-bit r k l ∙ s) ne;
+      },
+      record {
+        status = ap (λ (o : Stepped). getD (o .answer) 0 0) a ∙ told-status c (lines b) set high;
+        board = s;
+        edges = λ k l. ap (λ (d : Board). bitOf (d .icu .edges) k) s ∙ served-edges c n (h .level) (t .edges) k l;
+        isr = λ k l. ap (λ (d : Board). bitOf (d .icu .isr) k) s ∙ served-isr c n (h .level) (t .isr) k l;
+        lowest = ap (λ (d : Board). d .icu .lowest) s ∙ served-lowest c n (h .level);
+        vector = λ v. ap (λ (o : Stepped). getD (o .answer) 2 0) a
+            ∙ told-vector c (lines b) set high v
+            ∙ ap (λ (x : ℕ). c .iw2 / 8 * 8 + x) i;
+        call = λ v.
+            let p = told-call c (lines b) set high v in (
+              ap (λ (o : Stepped). getD (o .answer) 4 0) a ∙ ap (λ (x : List ℕ). getD x 0 0) p,
+              ap (λ (o : Stepped). getD (o .answer) 5 0) a
+                  ∙ ap (λ (x : List ℕ). getD x 1 0) p
+                  ∙ ap (λ (x : ℕ). if ag4 c then c .iw1 / 32 * 32 + x * 4 else c .iw1 / 64 * 64 + x * 8) i,
+              ap (λ (o : Stepped). getD (o .answer) 6 0) a ∙ ap (λ (x : List ℕ). getD x 2 0) p,
+            );
+      },
+    )
+
+-- What the board tells of a cycle.
+abbrev told-of : Board → DmaCycle.Out → Outcome
+told-of b o = record { status = 0; board = dma-is (o .dma) b; byte = o .report .byte; payload = twelve (payloadOf (o .report)) }
+
+-- A DMA cycle, with either END, is carried out, whoever has the bus.
+carried : (b : Board) (m : List ℕ) (e x : ℕ) → e < 2
+    → (stepOf b (cyclingWith e x) m ≡ answeredOf 6 (cycleOf b (eqb e 1) x m))
+    × (stepMemory b (cyclingWith e x) m ≡ DmaCycle.cycleOf (b .dma) (eqb e 1) x m .memory)
+unfolding stepOf stepMemory decodeOf unused outcomeOf memoryOf executeOf memoryAfter blocked cycleMemory
+carried b m e x h = by e h
+  where
+    as-outcome : (o : Outcome) (q : Bool) → (if q and false then refused 1 b else o) ≡ o
+    as-outcome o true = refl
+    as-outcome o false = refl
+
+    as-memory : (l : List ℕ) (q : Bool) → (if q and false then m else l) ≡ l
+    as-memory l true = refl
+    as-memory l false = refl
+
+    by : (e : ℕ) → e < 2
+        → (stepOf b (cyclingWith e x) m ≡ answeredOf 6 (cycleOf b (eqb e 1) x m))
+        × (stepMemory b (cyclingWith e x) m ≡ DmaCycle.cycleOf (b .dma) (eqb e 1) x m .memory)
+    by zero h = (ap (answeredOf 6) (as-outcome (cycleOf b false x m) (b .dma .serving)), as-memory _ (b .dma .serving))
+    by (suc zero) h = (ap (answeredOf 6) (as-outcome (cycleOf b true x m) (b .dma .serving)), as-memory _ (b .dma .serving))
+    by (suc (suc e)) h = absurd (omega arith)
+
+-- The first rank whose channel is ready is the winner's.
+abbrev FirstReady : Dma → ℕ → ℕ → Type 0
+FirstReady d k left =
+    (i : ℕ)
+    × (i < left)
+    × (winnerFrom d k left ≡ channelAt d (k + i))
+    × (DmaCycle.ready d (channelAt d (k + i)) ≡ true)
+    × ((j : ℕ) → j < i → DmaCycle.ready d (channelAt d (k + j)) ≡ false)
+
+first-ready : (d : Dma) (k left j : ℕ) → j < left → DmaCycle.ready d (channelAt d (k + j)) ≡ true → FirstReady d k left
+unfolding winnerFrom
+first-ready d k zero j h b = absurd (omega arith)
+first-ready d k (suc left) zero h b =
+    let e : k + 0 ≡ k = omega arith in
+    (0, omega arith, rw (e, rw e at b), b, λ j q. absurd (omega arith))
+first-ready d k (suc left) (suc j) h b = go (DmaCycle.ready d (channelAt d k)) refl (first-ready d (suc k) left j (omega arith) (rw (next j) at b))
+  where
+    next : (i : ℕ) → k + suc i ≡ suc k + i
+    next i = omega arith
+
+    zeroth : k + 0 ≡ k
+    zeroth = omega arith
+
+    go : (q : Bool) → DmaCycle.ready d (channelAt d k) ≡ q → FirstReady d (suc k) left → FirstReady d k (suc left)
+    go true q f = (0, omega arith, rw (q, zeroth), rw zeroth q, λ j q. absurd (omega arith))
+    go false q f = (suc (f .0), omega (arith, f .1), rw (q, next (f .0)) (f .2), rw (next (f .0)) (f .3), clear)
+      where
+        clear : (j : ℕ) → j < suc (f .0) → DmaCycle.ready d (channelAt d (k + j)) ≡ false
+        clear zero h = rw zeroth q
+        clear (suc j) h = rw (next j) (f .4 j (omega arith))
+
+-- A channel's rank and a rank's channel undo one another.
+rank-of : (f n : ℕ) → f < 4 → n < 4 → (f + (0 + (n + 4 - f) % 4)) % 4 ≡ n
+rank-of f n h l = omega arith
+
+channel-of : (f i : ℕ) → f < 4 → i < 4 → ((f + (0 + i)) % 4 + 4 - f) % 4 ≡ i
+channel-of f i h l = omega arith
+
+pub ready-asks : (d : Dma) (n : ℕ) → DmaCycle.ready d n ≡ asks d n
+unfolding DmaCycle.ready
+ready-asks d n = go (chan d n .masked)
+  where
+    go : (q : Bool) → (if q then false else bitOf (d .requests) n) ≡ (not q and bitOf (d .requests) n)
+    go true = refl
+    go false = refl
+
+foremost : (d : Dma) → d .first < 4 → (k : ℕ) → k < 4 → asks d k ≡ true → (n : ℕ) × Foremost d n × (winner d ≡ n)
+unfolding channelAt
+foremost d low k l a = (
+  channelAt d (0 + i),
+  record {
+    channel = omega arith;
+    chosen = sym (ready-asks d (channelAt d (0 + i))) ∙ r .3;
+    over = λ j h s ne. late j h s ne (ltb i (ahead d j)) refl;
+  },
+  r .2,
+)
+  where
+    f : ℕ
+    f = if d .rotate then d .first else 0
+
+    small : f < 4
+    small = below-4 (d .rotate)
+      where
+        below-4 : (q : Bool) → (if q then d .first else 0) < 4
+        below-4 true = low
+        below-4 false = omega arith
+
+    r : FirstReady d 0 4
+    r = first-ready d 0 4 (ahead d k) (omega arith) (ap (DmaCycle.ready d) (rank-of f k small l) ∙ ready-asks d k ∙ a)
+
+    i : ℕ
+    i = r .0
+
+    late : (j : ℕ) → j < 4 → asks d j ≡ true → j ≢ channelAt d (0 + i) → (q : Bool) → ltb i (ahead d j) ≡ q → ahead d (channelAt d (0 + i)) < ahead d j
+    late j h s ne true q = rw (channel-of f i small (r .1)) (ltb-true i (ahead d j) q)
+    late j h s ne false q = absurd (early (ltb (ahead d j) i) refl)
+      where
+        early : (v : Bool) → ltb (ahead d j) i ≡ v → ⊥
+        early true v =
+            true≢false (sym (ap (DmaCycle.ready d) (rank-of f j small h) ∙ ready-asks d j ∙ s) ∙ r .4 (ahead d j) (ltb-true (ahead d j) i v))
+        early false v =
+            let e : ahead d j ≡ i = omega (arith, ltb-false i (ahead d j) q, ltb-false (ahead d j) i v) in
+            ne (sym (rank-of f j small h) ∙ ap (λ (z : ℕ). (f + (0 + z)) % 4) e)
+
+-- A grant, and nothing.
+module _ (d : Dma) (e : Bool) (x : ℕ) (m : List ℕ) (idle : d .serving ≡ false) where
+  granted : (n : ℕ) → d .disabled ≡ false → n < 4 → winner d ≡ n → DmaCycle.cycleOf d e x m ≡ grantedOf d n m
+  unfolding DmaCycle.cycleOf
+  granted n en l w =
+      go (d .serving) (DmaCycle.releases d) (d .disabled) (eqb (winner d) 4) idle en (ap (λ (i : ℕ). eqb i 4) w ∙ ne-eqb n 4 (omega arith))
+      ∙ ap (λ (i : ℕ). grantedOf d i m) w
+    where
+      go : (v r k u : Bool) → v ≡ false → k ≡ false → u ≡ false → DmaCycle.cycleBy d e x m v r k u ≡ grantedOf d (winner d) m
+      go true r k u a b c = absurd (true≢false a)
+      go false r true u a b c = absurd (true≢false b)
+      go false r false true a b c = absurd (true≢false c)
+      go false r false false a b c = refl
+
+  nothing : (d .disabled or eqb (winner d) 4) ≡ true → DmaCycle.cycleOf d e x m ≡ nothingOf d m
+  unfolding DmaCycle.cycleOf
+  nothing h = go (d .serving) (DmaCycle.releases d) (d .disabled) (eqb (winner d) 4) idle h
+    where
+      go : (v r k u : Bool) → v ≡ false → (k or u) ≡ true → DmaCycle.cycleBy d e x m v r k u ≡ nothingOf d m
+      go true r k u a b = absurd (true≢false a)
+      go false r true u a b = refl
+      go false r false true a b = refl
+      go false r false false a b = absurd (true≢false (sym b))
+
+no-winner : (d : Dma) (k left : ℕ) → ((n : ℕ) → n < 4 → asks d n ≡ false) → winnerFrom d k left ≡ 4
+unfolding winnerFrom channelAt
+no-winner d k zero h = refl
+no-winner d k (suc left) h = rw (ready-asks d (channelAt d k) ∙ h (channelAt d k) (omega arith)) (no-winner d (suc k) left h)
+
+pub channel-granted : {b : Board} → Reached b → (e x : ℕ) (m : List ℕ) → e < 2 → b .dma .serving ≡ false → b .dma .disabled ≡ false
+    → (k : ℕ) → k < 4 → asks (b .dma) k ≡ true
+    → (n : ℕ) × Foremost (b .dma) n × Grants b e x m n
+unfolding grantedOf cycleOf answeredOf answerOf
+channel-granted {b} r e x m h sv en k l a =
+    let q = foremost (b .dma) (reached-sound r .first) k l a in
+    let n = q .0 in
+    let c = granted (b .dma) (eqb e 1) x m sv n en (q .1 .channel) (q .2) in
+    let s = carried b m e x h in
+    let t = s .0 ∙ ap (λ (o : DmaCycle.Out). answeredOf 6 (told-of b o)) c in (
+      n,
+      q .1,
+      record {
+        kind = ap (λ (o : Stepped). getD (o .answer) 4 0) t;
+        channel = ap (λ (o : Stepped). getD (o .answer) 5 0) t;
+        serving = ap (λ (o : Stepped). o .board .dma .serving) t;
+        served = ap (λ (o : Stepped). o .board .dma .channel) t;
+        channels = ap (λ (o : Stepped). o .board .dma .channels) t;
+        ends = ap (λ (o : Stepped). o .board .dma .ends) t;
+        end = ap (λ (o : Stepped). getD (o .answer) 6 0) t;
+        memory = s .1 ∙ ap (λ (o : DmaCycle.Out). o .memory) c;
+      },
+    )
+
+pub nothing-granted : (b : Board) (e x : ℕ) (m : List ℕ) → e < 2 → b .dma .serving ≡ false
+    → (b .dma .disabled ≡ true) ⊎ ((k : ℕ) → k < 4 → asks (b .dma) k ≡ false)
+    → (stepOf b (cyclingWith e x) m .board ≡ b)
+    × (stepMemory b (cyclingWith e x) m ≡ m)
+    × (getD (stepOf b (cyclingWith e x) m .answer) 0 0 ≡ 0)
+    × (getD (stepOf b (cyclingWith e x) m .answer) 4 0 ≡ 0)
+unfolding nothingOf cycleOf answeredOf answerOf
+nothing-granted b e x m h sv why =
+    let c = nothing (b .dma) (eqb e 1) x m sv (because why) in
+    let s = carried b m e x h in
+    let t = s .0 ∙ ap (λ (o : DmaCycle.Out). answeredOf 6 (told-of b o)) c in (
+      ap (λ (o : Stepped). o .board) t,
+      s .1 ∙ ap (λ (o : DmaCycle.Out). o .memory) c,
+      ap (λ (o : Stepped). getD (o .answer) 0 0) t,
+      ap (λ (o : Stepped). getD (o .answer) 4 0) t,
+    )
+  where
+    or-true : (p q : Bool) → q ≡ true → (p or q) ≡ true
+    or-true true q e = refl
+    or-true false q e = e
+
+    because : (b .dma .disabled ≡ true) ⊎ ((k : ℕ) → k < 4 → asks (b .dma) k ≡ false) → (b .dma .disabled or eqb (winner (b .dma)) 4) ≡ true
+    because (inl d) = rw d refl
+    because (inr f) = or-true (b .dma .disabled) (eqb (winner (b .dma)) 4) (eq-eqb (winner (b .dma)) 4 (no-winner (b .dma) 0 4 f))
+
+-- A reset.
+pub reset-is-fresh : (b : Board) (m : List ℕ)
+    → (stepOf b resetting m .board ≡ record { icu = freshOf .icu; intp = 0; timer = freshOf .timer; dma = freshOf .dma; kept = b .kept })
+    × (stepMemory b resetting m ≡ m)
+unfolding stepOf stepMemory answeredOf decodeOf unused outcomeOf memoryOf executeOf memoryAfter blocked freshOf
+reset-is-fresh b m = (go (b .dma .serving), stays (b .dma .serving))
+  where
+    go : (q : Bool) → (if q and false then refused 1 b else done (resetOf b)) .board ≡ resetOf b
+    go true = refl
+    go false = refl
+
+    stays : (q : Bool) → (if q and false then m else m) ≡ m
+    stays true = refl
+    stays false = refl
