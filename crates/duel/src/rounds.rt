@@ -81,8 +81,15 @@ fn tell_answers(round: u32, passed: u64, want: &Answers, got: &Answers) {
 }
 
 // The answers are counted, and compared.
-fn compare_answers(tally: Tally, round: u32, passed: u64, want: &Answers, got: &Answers) -> Tally {
-    let counted = counts::count_answers(tally, want);
+fn compare_answers(
+    tally: Tally,
+    round: u32,
+    passed: u64,
+    tape: &Tape,
+    want: &Answers,
+    got: &Answers,
+) -> Tally {
+    let counted = counts::count_answers(tally, tape, want);
     let n = stretch::count_differing(want, got);
     if n == 0 {
         return compare_calls(counted, round, passed);
@@ -146,7 +153,7 @@ fn run_stretch(
     let maker = make(state.maker, &mut tape);
     let last = stretch::run_second(s, &tape, 64, second_memory, length, &mut want);
     let run = first::run_first(state.run, &tape, 64, first_memory, length, &mut got);
-    let counted = compare_answers(run.tally, round, passed, &want, &got);
+    let counted = compare_answers(run.tally, round, passed, &tape, &want, &got);
     let tally = compare_memory(counted, round, passed, first_memory, second_memory);
     let next = last.s;
     Round {

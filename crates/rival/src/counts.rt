@@ -1,10 +1,12 @@
-// What the tapes do: how often each status, operation and kind of DMA cycle came, counted by the second board's answers.
+// What the tapes do: how often each status, operation and kind of DMA cycle came, and how often register 0 reset the DMA chip, counted by the second
+// board's answers.
 use crate::show;
 use crate::stretch::Answers;
+use crate::stretch::Tape;
 use libc::STDOUT_FILENO;
 
 // The counts, in the order in which they are printed: records; calls of the first board, of them those refused with 7, and of these those on a board
-// with a field out of its range; statuses 0 to 6; operations 0 to 6, and any other; kinds of DMA cycle.
+// with a field out of its range; statuses 0 to 6; operations 0 to 6, and any other; kinds of DMA cycle; resets by register 0 of the DMA chip.
 pub struct Tally {
     pub n: [u64; 32],
 }
@@ -22,12 +24,14 @@ const STATUSES: usize = 4;
 const OPERATIONS: usize = 11;
 
 const KINDS: usize = 19;
+
+const RESETS: usize = 23;
 // Not printed here: differences, calls that were not what they should be, and statuses that no record has.
-pub const DIFFERENCES: usize = 23;
+pub const DIFFERENCES: usize = 24;
 
-pub const WRONG: usize = 24;
+pub const WRONG: usize = 25;
 
-const STRANGE: usize = 25;
+const STRANGE: usize = 26;
 
 pub fn zero() -> Tally {
     Tally { n: [0; 32] }
@@ -79,13 +83,29 @@ fn count_answer(tally: Tally, status: u8, op: u8, kind: u8) -> Tally {
     next
 }
 
-// The answers of 64 records.
-pub fn count_answers(tally: Tally, answers: &Answers) -> Tally {
+// A write of register 0 with D0 set, where it is taken.
+fn count_reset(tally: Tally, status: u8, op: u8, port: u8, data: u8) -> Tally {
+    if (status == 0) & (op == 1) & (port == 0x20) & (data % 2 == 1) {
+        return add(tally, RESETS, 1);
+    }
+    tally
+}
+
+// 64 records with their answers.
+pub fn count_answers(tally: Tally, tape: &Tape, answers: &Answers) -> Tally {
     let mut next = tally;
     let mut i: usize = 0;
     while i < 64 {
         let place = i * 16;
+        let at = i * 8;
         next = count_answer(next, answers[place], answers[place + 1], answers[place + 4]);
+        next = count_reset(
+            next,
+            answers[place],
+            answers[place + 1],
+            tape[at + 1],
+            tape[at + 2],
+        );
         i += 1;
     }
     next
@@ -118,6 +138,7 @@ cycles, nothing: %
 cycles, granted: %
 cycles, moved: %
 cycles, released: %
+resets of the DMA chip by register 0: %
 ",
         numbers,
     );

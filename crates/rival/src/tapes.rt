@@ -1,14 +1,15 @@
 // Tapes from a seed: records steered so that the chips are really used.
 //
 // The maker mostly makes single records, drawn by weights. Now and then it starts a script, which sets a chip up record by record, with single
-// records strewn in: the initializing words of the interrupt chip, a counter's mode and count, a channel with its requests and cycles, or a latch
-// and reads of a counter. In the end one record in thirty-two has a byte changed, whatever that makes of it.
+// records strewn in: the initializing words of the interrupt chip, a counter's mode and count, a channel with its requests and cycles (some of these
+// after a reset of the DMA chip by register 0), or a latch and reads of a counter. In the end one record in thirty-two has a byte changed, whatever
+// that makes of it.
 //
 // Addresses lie near 0, near the memory's end and near FFFFFFH.
 
 pub struct Maker {
     pub seed: u32,
-    // 0 none, 1 interrupt chip, 2 counter, 3 channel, 4 reads of a counter.
+    // 0 none, 1 interrupt chip, 2 counter, 3 channel, 4 reads of a counter, 5 a reset of the DMA chip and then 3.
     pub script: u32,
     pub step: u32,
     // What the script drew when it began.
@@ -83,7 +84,7 @@ fn stray(y: u32, level: u32) -> u32 {
     seldom(y / 65536, 31, level)
 }
 
-// PFCW and MCW, each command twice or once, with levels.
+// PFCW and MCW, each command twice or once: PFCW with levels, MCW now and then with POL, with D7 and with EXCN.
 const COMMANDS: [u32; 16] = [
     0x20,
     0x20,
@@ -106,8 +107,8 @@ const COMMANDS: [u32; 16] = [
 fn command(y: u32) -> [u8; 8] {
     let row = second::index(y) % 16;
     let word = COMMANDS[row];
-    let rest = second::choose(word % 16 == 0, y / 256 % 8, seldom(y / 256, 11, 4));
-    write_of(0, word | rest)
+    let also = seldom(y / 256, 11, 4) | seldom(y / 4096, 3, 0x80) | seldom(y / 16384, 3, 0x20);
+    write_of(0, word | second::choose(word % 16 == 0, y / 256 % 8, also))
 }
 
 fn mask(y: u32) -> [u8; 8] {
@@ -219,6 +220,18 @@ fn channel_step(step: u32, choice: u32, memory: u32, y: u32) -> [u8; 8] {
     }
 }
 
+// The script of a reset: register 0 with D0 set, and D1 seldom, which makes it one that is not built; some registers read; a channel selected, base or
+// not, and one of its numbers read.
+
+fn reset_step(step: u32, choice: u32, y: u32) -> [u8; 8] {
+    match step {
+        0 => write_of(0x20, y & 0xFC | 1 | seldom(y / 256, 15, 2)),
+        3 => write_of(0x21, choice / 4 % 8),
+        4 => read_of(0x22 + y % 5),
+        _ => read_of(0x21 + y % 15),
+    }
+}
+
 // The script of reads: a latch, pulses, a byte, another latch or a byte, and two bytes.
 
 fn read_step(step: u32, choice: u32, y: u32) -> [u8; 8] {
@@ -236,6 +249,7 @@ fn steps_of(script: u32, choice: u32) -> u32 {
         1 => 4,
         2 => second::choose(choice / 4 % 3 == 2, 3, 2),
         4 => 6,
+        5 => 5,
         _ => choice / 4096 % 10 + 12,
     }
 }
@@ -245,6 +259,7 @@ fn script_step(script: u32, step: u32, choice: u32, memory: u32, y: u32) -> [u8;
         1 => icu_step(step, choice, y),
         2 => counter_step(step, choice, y),
         4 => read_step(step, choice, y),
+        5 => reset_step(step, choice, y),
         _ => channel_step(step, choice, memory, y),
     }
 }
@@ -260,14 +275,14 @@ fn spoiled(record: [u8; 8], x: u32, y: u32) -> [u8; 8] {
     next
 }
 
-// Which script begins, if any, at this draw.
+// Which script begins, if any, at this draw. One channel in five comes after a reset.
 fn begun(x: u32) -> u32 {
     let k = x / 64 % 64;
     match k {
         0..=1 => 1,
         2..=7 => 2,
-        8..=9 => 3,
-        10..=11 => 4,
+        8..=10 => second::choose(x / 16777216 % 5 == 0, 5, 3),
+        11..=12 => 4,
         _ => 0,
     }
 }
@@ -283,13 +298,13 @@ fn stepped(m: Maker, seed: u32, script: u32, step: u32) -> Maker {
     }
 }
 
-// The maker after a record of its script.
+// The maker after a record of its script. A reset's script goes on with a channel's.
 fn moved_on(m: Maker, y: u32) -> Maker {
     let next = m.step % 256 + 1;
     if next < steps_of(m.script, m.choice) {
         return stepped(m, y, m.script, next);
     }
-    stepped(m, y, 0, 0)
+    stepped(m, y, second::choose(m.script == 5, 3, 0), 0)
 }
 
 fn made(m: Maker, x: u32, y: u32) -> Drawn {

@@ -1,0 +1,117 @@
+/* long: the board over a memory that is longer than the DMA chip can address: 16,777,216 bytes and 4,096 more. Blocks of four units cross from
+ * FFFFFFH to 000000H upwards and downwards, from the device to memory and back. Each unit must be where it has to be with the byte that it has to
+ * have, and of the whole memory the four bytes that were written must be the only ones that changed: nothing from 16,777,216 on.
+ *
+ * The toolchain's compiler comes without C's headers, so the few functions of the C library are declared here. */
+#include "limbusagin.h"
+
+int printf(const char *, ...);
+int fflush(void *);
+void *malloc(unsigned long);
+
+enum { REACH = 1 << 24, LENGTH = REACH + 4096, BLOCKS = 4, UNITS = 4, RECORDS = BLOCKS * 14 };
+
+/* Register A: block mode, and which way. */
+enum { UPWARDS = 0x80, DOWNWARDS = 0xA0, TO_MEMORY = 0x04, TO_DEVICE = 0x08 };
+
+/* A block of four units: its mode, its first address, the bytes that the device has, and what each unit has to be. */
+struct block {
+    unsigned mode, from;
+    unsigned char device[UNITS];
+    unsigned address[UNITS];
+    unsigned char data[UNITS];
+};
+
+static const struct block blocks[BLOCKS] = {
+    {UPWARDS | TO_MEMORY, 0xFFFFFE, {0xA1, 0xA2, 0xA3, 0xA4}, {0xFFFFFE, 0xFFFFFF, 0x000000, 0x000001}, {0xA1, 0xA2, 0xA3, 0xA4}},
+    {UPWARDS | TO_DEVICE, 0xFFFFFE, {0}, {0xFFFFFE, 0xFFFFFF, 0x000000, 0x000001}, {0xA1, 0xA2, 0xA3, 0xA4}},
+    {DOWNWARDS | TO_MEMORY, 0x000001, {0xB1, 0xB2, 0xB3, 0xB4}, {0x000001, 0x000000, 0xFFFFFF, 0xFFFFFE}, {0xB1, 0xB2, 0xB3, 0xB4}},
+    {DOWNWARDS | TO_DEVICE, 0x000001, {0}, {0x000001, 0x000000, 0xFFFFFF, 0xFFFFFE}, {0xB1, 0xB2, 0xB3, 0xB4}},
+};
+
+static unsigned char tape[RECORDS * LIMBUSAGIN_RECORD];
+static unsigned char answers[RECORDS * LIMBUSAGIN_ANSWER];
+static unsigned long size;
+
+static void put(unsigned op, unsigned a, unsigned b)
+{
+    tape[size] = (unsigned char)op;
+    tape[size + 1] = (unsigned char)a;
+    tape[size + 2] = (unsigned char)b;
+    size += LIMBUSAGIN_RECORD;
+}
+
+/* Fourteen records: a count of 3, the address, the mode, channel 0 unmasked, its request, the grant, and the four units. */
+static void put_block(struct block b)
+{
+    put(1, 0x22, UNITS - 1);
+    put(1, 0x23, 0);
+    put(1, 0x24, b.from);
+    put(1, 0x25, b.from >> 8);
+    put(1, 0x26, b.from >> 16);
+    put(1, 0x2A, b.mode);
+    put(1, 0x2F, 0x0E);
+    put(3, 2, 1);
+    put(6, 0, 0);
+    for (int i = 0; i < UNITS; i++)
+        put(6, 0, b.device[i]);
+    put(2, 0x2B, 0);
+}
+
+static unsigned char pattern(unsigned long i)
+{
+    return (unsigned char)(i * 7 + i / 256 * 3 + i / 65536);
+}
+
+static int is_wrong;
+
+static void check(int good, const char *what, unsigned long where, unsigned got)
+{
+    if (!good)
+        printf("long: %s, at %lu: %02X\n", what, where, got), is_wrong = 1;
+}
+
+static unsigned address_of(const unsigned char *answer)
+{
+    return answer[8] | (unsigned)answer[9] << 8 | (unsigned)answer[10] << 16 | (unsigned)answer[11] << 24;
+}
+
+int main(void)
+{
+    unsigned char *memory = malloc(LENGTH);
+    if (!memory) {
+        printf("long: no memory left\n");
+        return 1;
+    }
+    for (unsigned long i = 0; i < LENGTH; i++)
+        memory[i] = pattern(i);
+    for (int b = 0; b < BLOCKS; b++)
+        put_block(blocks[b]);
+    struct limbusagin_fed fed = limbusagin_feed(limbusagin_fresh(), tape, size, memory, LENGTH, answers, sizeof answers);
+    check(fed.status == 0 && fed.records == RECORDS, "the call was not taken whole", fed.records, fed.status);
+    for (unsigned long r = 0; r < RECORDS; r++)
+        check(answers[r * LIMBUSAGIN_ANSWER] == 0, "a record was refused", r, answers[r * LIMBUSAGIN_ANSWER]);
+    for (int b = 0; b < BLOCKS; b++)
+        for (int i = 0; i < UNITS; i++) {
+            const unsigned char *answer = answers + (b * 14 + 9 + i) * LIMBUSAGIN_ANSWER;
+            unsigned long unit = (unsigned long)(b * UNITS + i);
+            check(answer[4] == 2, "a cycle moved no unit", unit, answer[4]);
+            check(answer[6] == (i == UNITS - 1), "a block does not end with its fourth unit", unit, answer[6]);
+            check(address_of(answer) == blocks[b].address[i], "a unit is at another address", unit, address_of(answer));
+            check(answer[2] == blocks[b].data[i], "a unit has another byte", unit, answer[2]);
+        }
+    unsigned long others = 0;
+    for (unsigned long i = 0; i < LENGTH; i++) {
+        int written = 0;
+        for (int u = 0; u < UNITS; u++)
+            if (i == blocks[2].address[u])
+                check(memory[i] == blocks[2].data[u], "memory has another byte", i, memory[i]), written = 1;
+        if (!written && memory[i] != pattern(i) && others++ < 10)
+            check(0, i < REACH ? "a byte changed that no unit was at" : "a byte past the address lines changed", i, memory[i]);
+    }
+    if (!is_wrong)
+        printf("long memory: %d bytes lent; %d units across FFFFFFH and 000000H, to memory and from it; no other byte changed, and none from %d on\n",
+               LENGTH, BLOCKS * UNITS, REACH);
+    fflush(0);
+    return is_wrong;
+}
