@@ -192,7 +192,7 @@ fn run_round(round: u32, tally: Tally) -> Tally {
     run.tally
 }
 
-// n rounds, and the counts.
+// n rounds.
 pub fn duel(n: u32) -> Tally {
     let mut tally = counts::zero();
     let mut round: u32 = 0;
@@ -200,7 +200,13 @@ pub fn duel(n: u32) -> Tally {
         tally = run_round(round, tally);
         round += 1;
     }
-    show::print_with(b"rounds: %\n", round as u64, 0, 0, 0);
-    counts::print_all(tally);
     tally
+}
+
+// The counts of n rounds.
+pub fn print_all(n: u32, tally: Tally) -> bool {
+    if show::print_with(b"rounds: %\n", n as u64, 0, 0, 0) {
+        return counts::print_all(tally);
+    }
+    false
 }

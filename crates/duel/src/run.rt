@@ -2,6 +2,7 @@
 // record by record, on the first in lumps. Files are read in lumps too, so they may have any length.
 use super::first;
 use libc::STDERR_FILENO;
+use libc::STDOUT_FILENO;
 use rival::counts;
 use rival::counts::Tally;
 use rival::notation;
@@ -19,6 +20,8 @@ pub struct Totals {
     pub records: u64,
     pub bad: u64,
     pub unread: u64,
+    // every line was written so far
+    pub written: bool,
 }
 
 // A chart under way: its name, its records with the answers typed in, and whether all its lines read well.
@@ -50,6 +53,7 @@ pub fn no_totals() -> Totals {
         records: 0,
         bad: 0,
         unread: 0,
+        written: true,
     }
 }
 
@@ -90,8 +94,7 @@ fn say(words: &[u8]) {
 
 // The rows are numbered as the faults of `notation` are.
 fn complain(path: &[u8], line: u64, fault: u32) {
-    say(path);
-    say(b":");
+    report::say_of(path, b":");
     io::print_decimal(STDERR_FILENO, line);
     say(b": ");
     show::write_row(
@@ -115,7 +118,7 @@ the file ends inside this line",
     say(b"\n");
 }
 
-fn report(board: &[u8], i: usize, typed: &Answers, got: &Answers) {
+fn tell_apart(board: &[u8], i: usize, typed: &Answers, got: &Answers) {
     show::print(board);
     show::print_with(
         b" board differs at record %\n",
@@ -134,7 +137,7 @@ fn agrees(board: &[u8], typed: &Answers, got: &Answers) -> bool {
     if i >= stretch::ROOM {
         return true;
     }
-    report(board, i, typed, got);
+    tell_apart(board, i, typed, got);
     false
 }
 
@@ -178,28 +181,48 @@ fn both_agree(tape: &Tape, typed: &Answers, n: usize, number: u32) -> bool {
     second & first & agree_otherwise(&first_memory, &second_memory, run.tally)
 }
 
-fn print_name(name: &[u8; 64], length: usize) {
-    show::print_part(name, length);
+// A chart's number and name; the array as a slice, whose length is known by its type here.
+fn print_head(number: u64, name: &[u8; 64], length: usize) -> bool {
+    show::print_with(b"chart % ", number, 0, 0, 0) & print_name(name, length) & show::print(b": ")
 }
 
-// True where the chart agrees.
-fn run_chart(chart: Chart, number: u64) -> bool {
+fn print_name(name: &[u8], length: usize) -> bool {
+    if length <= name.len() {
+        return report::print_name(STDOUT_FILENO, &name[..length]);
+    }
+    false
+}
+
+// A chart that was run, or not: whether it agreed, and whether that was written. Where it did not agree, the program fails anyway.
+struct Outcome {
+    agreed: bool,
+    written: bool,
+}
+
+fn tell_failed(words: &[u8]) -> Outcome {
+    Outcome {
+        agreed: false,
+        written: show::print(words),
+    }
+}
+
+fn run_chart(chart: Chart, number: u64) -> Outcome {
     let n = chart.records;
     if !chart.well {
-        show::print(b"not run, a line of it does not read\n");
-        return false;
+        return tell_failed(b"not run, a line of it does not read\n");
     }
     if n == 0 {
-        show::print(b"not run, it has no record\n");
-        return false;
+        return tell_failed(b"not run, it has no record\n");
     }
     let tape = chart.tape;
     let typed = chart.typed;
     if both_agree(&tape, &typed, n, (number % 65536) as u32 + 1) {
-        show::print_with(b"ok, % records\n", n as u64, 0, 0, 0);
-        return true;
+        return Outcome {
+            agreed: true,
+            written: show::print_with(b"ok, % records\n", n as u64, 0, 0, 0),
+        };
     }
-    false
+    tell_failed(b"")
 }
 
 // The open chart, if there is one, is over: it is run.
@@ -208,15 +231,15 @@ fn close(chart: Chart, totals: Totals) -> Totals {
         return totals;
     }
     let name = chart.name;
-    show::print_with(b"chart % ", totals.charts, 0, 0, 0);
-    print_name(&name, chart.length);
-    show::print(b": ");
-    if run_chart(chart, totals.charts) {
-        let mut next = totals;
+    let headed = print_head(totals.charts, &name, chart.length);
+    let told = run_chart(chart, totals.charts);
+    let mut next = totals;
+    next.written = totals.written & headed & told.written;
+    if told.agreed {
         next.agreed = more(totals.agreed);
         return next;
     }
-    totals
+    next
 }
 
 // A chart's name: the chart before it is over, and it opens.
@@ -372,7 +395,7 @@ fn take_lump(fd: i32, path: &[u8], reader: Reader) -> Reader {
     let mut lump = io::buffer();
     let got = libc::read(fd, &mut lump);
     if got < 0 {
-        os::fail(path);
+        report::fail(path);
         return cut_off(reader);
     }
     if got == 0 {
@@ -411,8 +434,7 @@ fn seen(path: &[u8], before: Totals, after: Totals) -> Totals {
         & (before.bad == after.bad)
         & (before.unread == after.unread);
     if silent {
-        say(path);
-        say(b": there is no chart in it\n");
+        report::say_of(path, b": there is no chart in it\n");
         return with_unread(after);
     }
     after
@@ -421,7 +443,7 @@ fn seen(path: &[u8], before: Totals, after: Totals) -> Totals {
 fn open_file(path: &[u8], totals: Totals) -> Totals {
     let fd = os::open_read(path);
     if fd < 0 {
-        os::fail(path);
+        report::fail(path);
         return with_unread(totals);
     }
     let next = take_file(fd, path, totals);
@@ -450,25 +472,37 @@ pub fn take_arguments(words: usize) -> Totals {
     totals
 }
 
-pub fn print_totals(totals: Totals) {
+pub fn print_totals(totals: Totals) -> bool {
     show::print_with(
         b"% charts, % ok on both boards, % records\n",
         totals.charts,
         totals.agreed,
         totals.records,
         0,
-    );
+    )
 }
 
-// The last line: all that can go wrong, counted.
-pub fn print_last(totals: Totals, differences: u64) {
-    show::print_with(
+// The last line: all that can go wrong, counted; answers how the program ends. `written` says whether all lines before it were written.
+pub fn print_last(totals: Totals, differences: u64, written: bool) -> u8 {
+    let failed = difference(totals.charts, totals.agreed);
+    let last = show::print_with(
         b"files not read: %, bad lines: %, charts failed: %, differences: %\n",
         totals.unread,
         totals.bad,
-        difference(totals.charts, totals.agreed),
+        failed,
         differences,
     );
+    if !last {
+        return report::fail_output(b"duel: standard output");
+    }
+    if !(totals.written & written) {
+        say(b"duel: standard output: some lines were not written\n");
+        return report::FAILED;
+    }
+    if totals.unread | totals.bad | failed | differences == 0 {
+        return report::WELL;
+    }
+    report::FAILED
 }
 
 fn difference(a: u64, b: u64) -> u64 {

@@ -1,19 +1,38 @@
 // feed [MEMORY]: feeds the tape on standard input to a board that was just reset, and writes the raw answers to standard output.
 // MEMORY is a file whose bytes are the lent memory; it holds the memory after the run, or is as it was if anything failed.
+mod file;
+mod look;
+
 use board::Board;
 use libc::STDERR_FILENO;
 use libc::STDIN_FILENO;
 use libc::STDOUT_FILENO;
 
-// One lump of the tape: whether there may be another, and whether all went well.
+// One lump of the tape: whether there may be another, how many records it ended, and how it went.
 struct Lump {
     more: bool,
-    well: bool,
+    records: usize,
+    status: u8,
     board: Board,
+}
+
+// A whole tape: how it went, and whether the memory after it is to be kept.
+pub struct Outcome {
+    pub status: u8,
+    pub keep: bool,
 }
 
 fn say(text: &[u8]) {
     io::write_all(STDERR_FILENO, text);
+}
+
+fn last_lump(status: u8, board: Board) -> Lump {
+    Lump {
+        more: false,
+        records: 0,
+        status: status,
+        board: board,
+    }
 }
 
 // The answers of k records, of which a lump has 8,192 at most.
@@ -35,188 +54,127 @@ fn feed_lump(board: Board, memory: &mut [u8]) -> Lump {
     let got = libc::read(STDIN_FILENO, &mut lump);
     if got < 0 {
         os::fail(b"feed: standard input");
-        return Lump {
-            more: false,
-            well: false,
-            board: board,
-        };
+        return last_lump(report::FAILED, board);
     }
     if got == 0 {
-        return Lump {
-            more: false,
-            well: true,
-            board: board,
-        };
+        return last_lump(report::WELL, board);
     }
     let n = io::count(got, &lump);
     let fed = intake::feed(board, &lump[..n], memory, &mut answers);
     let next = fed.board;
     if fed.status != 0 {
         say(b"feed: the board refused a lump of the tape with status 7\n");
-        return Lump {
-            more: false,
-            well: false,
-            board: next,
-        };
+        return last_lump(report::FAILED, next);
     }
     if send(&answers, fed.records) {
         return Lump {
             more: true,
-            well: true,
+            records: fed.records,
+            status: report::WELL,
             board: next,
         };
     }
-    os::fail(b"feed: standard output");
-    Lump {
-        more: false,
-        well: false,
-        board: next,
-    }
+    last_lump(report::fail_output(b"feed: standard output"), next)
 }
 
-// A tape may end inside a record, whose bytes were then not used.
-fn report_cut(board: Board) {
+// The end of a tape that went well, unless it is inside a record, whose bytes were then not used.
+fn end_tape(board: Board) -> u8 {
     let left = board.kept.length;
     if left == 0 {
-        return;
+        return report::WELL;
     }
     say(b"feed: the tape ends inside a record; bytes left over: ");
     io::print_decimal(STDERR_FILENO, left as u64);
     say(b"\n");
+    report::FAILED
 }
 
-// Feeds the whole tape, and answers whether all went well.
-fn run(memory: &mut [u8]) -> bool {
+// Of a tape with no whole record nothing is kept: there is nothing new.
+fn end_run(last: Lump, some: bool) -> Outcome {
+    if last.status == report::WELL {
+        let board = last.board;
+        return Outcome {
+            status: end_tape(board),
+            keep: some,
+        };
+    }
+    Outcome {
+        status: last.status,
+        keep: false,
+    }
+}
+
+// Feeds the whole tape.
+pub fn run(memory: &mut [u8]) -> Outcome {
     let mut board = Board::reset();
+    let mut some = false;
     let mut turns = u64::MAX;
     while turns > 0 {
         let lump = feed_lump(board, memory);
         if !lump.more {
-            let last = lump.board;
-            report_cut(last);
-            return lump.well;
+            return end_run(lump, some);
         }
+        some = 0 < lump.records || some;
         board = lump.board;
         turns -= 1;
     }
-    false
-}
-
-// The path with ".new" after it; answers its length, or 0 where no path is so long.
-fn name_new(path: &[u8], name: &mut [u8; 4100]) -> usize {
-    let mut i = 0;
-    while i < path.len() {
-        if 4095 < i {
-            return 0;
-        }
-        name[i] = path[i];
-        i += 1;
-    }
-    name[i] = b'.';
-    name[i + 1] = b'n';
-    name[i + 2] = b'e';
-    name[i + 3] = b'w';
-    i + 4
-}
-
-// The memory goes to a new file, which takes the old one's place only when it is whole.
-fn save_as(path: &[u8], new: &[u8], memory: &[u8]) {
-    let fd = os::create(new);
-    if fd < 0 {
-        os::fail(new);
-        return;
-    }
-    if !io::write_all(fd, memory) {
-        os::fail(new);
-        libc::close(fd);
-        os::unlink(new);
-        return;
-    }
-    if libc::close(fd) < 0 {
-        os::fail(new);
-        os::unlink(new);
-        return;
-    }
-    if os::rename(new, path) < 0 {
-        os::fail(path);
-        os::unlink(new);
+    Outcome {
+        status: report::FAILED,
+        keep: false,
     }
 }
 
-fn save(path: &[u8], memory: &[u8]) {
-    let mut name = [0u8; 4100];
-    let length = name_new(path, &mut name);
-    save_named(path, &name, length, memory);
+fn tell_usage() -> u8 {
+    say(
+        b"usage: feed [MEMORY] <TAPE >ANSWERS
+       MEMORY is a file whose bytes, 1,048,576 at the most, are the lent memory; it holds the memory after the run
+",
+    );
+    report::USAGE
 }
 
-// The array as a slice, as in `lend`.
-fn save_named(path: &[u8], name: &[u8; 4100], length: usize, memory: &[u8]) {
-    save_under(path, name, length, memory);
+fn take_word(word: &[u8]) -> u8 {
+    if word.len() == 0 {
+        say(b"feed: MEMORY is empty: it has to name a file\n");
+        return tell_usage();
+    }
+    if word[0] == b'-' {
+        say(
+            b"feed: there are no options; a file whose name begins with a dash is given as ./-NAME\n",
+        );
+        return tell_usage();
+    }
+    tell_terminal();
+    file::run_over(word)
 }
 
-fn save_under(path: &[u8], name: &[u8], length: usize, memory: &[u8]) {
-    if length <= name.len() {
-        save_as(path, &name[..length], memory);
+// Whoever gives the tape as MEMORY, and no tape, would wait with nothing said.
+fn tell_terminal() {
+    if libc::isatty(STDIN_FILENO) == 1 {
+        say(b"feed: the tape comes from the terminal, up to Ctrl-D\n");
     }
 }
 
-// The file's bytes are the memory, if there are no more of them than fit.
-fn load(fd: i32, path: &[u8], memory: &mut [u8]) {
-    let n = io::read_full(fd, memory);
-    let mut past = [0u8; 1];
-    let more = libc::read(fd, &mut past);
-    if more < 0 {
-        os::fail(path);
-        libc::close(fd);
-        return;
+fn take_arguments() -> u8 {
+    let words = os::arg_count();
+    if 2 < words {
+        say(b"feed: there is one MEMORY at the most; the tape is standard input\n");
+        return tell_usage();
     }
-    libc::close(fd);
-    if more > 0 {
-        say(path);
-        say(b": longer than 1,048,576 bytes, the most memory that feed lends\n");
-        return;
+    if words < 2 {
+        tell_terminal();
+        let mut none = [0u8; 1];
+        return run(&mut none[..0]).status;
     }
-    run_and_save(path, &mut memory[..n]);
-}
-
-// A run that failed leaves the file as it was.
-fn run_and_save(path: &[u8], memory: &mut [u8]) {
-    if run(memory) {
-        save(path, memory);
+    let mut word = io::buffer();
+    let n = os::arg(1, &mut word);
+    if os::errno() != 0 {
+        os::fail(b"feed: MEMORY");
+        return report::FAILED;
     }
-}
-
-// The array as a slice: its length is known by its type here.
-fn lend(fd: i32, path: &[u8], memory: &mut [u8; 1048576]) {
-    load(fd, path, memory);
-}
-
-fn run_over(path: &[u8]) {
-    let fd = os::open_read(path);
-    if fd < 0 {
-        os::fail(path);
-        return;
-    }
-    let mut memory = [0u8; 1048576];
-    lend(fd, path, &mut memory);
+    take_word(&word[..n])
 }
 
 fn main() {
-    let words = os::arg_count();
-    if 2 < words {
-        say(b"usage: feed [MEMORY] <TAPE >ANSWERS\n");
-        return;
-    }
-    if words < 2 {
-        let mut none = [0u8; 1];
-        run(&mut none[..0]);
-        return;
-    }
-    let mut path = io::buffer();
-    let length = os::arg(1, &mut path);
-    if length == 0 {
-        os::fail(b"feed: MEMORY");
-        return;
-    }
-    run_over(&path[..length]);
+    report::end(take_arguments());
 }

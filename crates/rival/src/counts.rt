@@ -111,7 +111,7 @@ pub fn count_answers(tally: Tally, tape: &Tape, answers: &Answers) -> Tally {
     next
 }
 
-pub fn print_all(tally: Tally) {
+pub fn print_all(tally: Tally) -> bool {
     let numbers = tally.n;
     show::fill(
         STDOUT_FILENO,
@@ -141,5 +141,5 @@ cycles, released: %
 resets of the DMA chip by register 0: %
 ",
         numbers,
-    );
+    )
 }

@@ -1,56 +1,61 @@
 // Printing.
 use libc::STDOUT_FILENO;
 
-pub fn print(text: &[u8]) {
-    io::write_all(STDOUT_FILENO, text);
+pub fn print(text: &[u8]) -> bool {
+    io::write_all(STDOUT_FILENO, text)
 }
 
-// The first n bytes.
-pub fn print_part(text: &[u8], n: usize) {
-    if n <= text.len() {
-        print(&text[0..n]);
+fn write_byte(out: i32, one: &[u8; 1]) -> bool {
+    io::write_all(out, one)
+}
+
+// In the place of how many numbers a byte was: it was not written.
+const UNWRITTEN: usize = 2;
+
+fn if_written(written: bool, n: usize) -> usize {
+    if written {
+        return n;
     }
-}
-
-fn write_byte(out: i32, one: &[u8; 1]) {
-    io::write_all(out, one);
+    UNWRITTEN
 }
 
 // A byte of a text, or a number in its place. Gives 1 where it was a number.
 fn put(out: i32, b: u8, n: u64) -> usize {
     if b == b'%' {
-        io::print_decimal(out, n);
-        return 1;
+        return if_written(io::print_decimal(out, n), 1);
     }
     if b == b'$' {
-        io::print_hex(out, n, 2);
-        return 1;
+        return if_written(io::print_hex(out, n, 2), 1);
     }
     let one = [b];
-    write_byte(out, &one);
-    0
+    if_written(write_byte(out, &one), 0)
 }
 
-// A text, to standard output or standard error, with a number for each % (decimal) and each $ (two hex digits).
-pub fn fill(out: i32, text: &[u8], numbers: [u64; 32]) {
+// A text, to standard output or standard error, with a number for each % (decimal) and each $ (two hex digits). Answers whether it was written.
+pub fn fill(out: i32, text: &[u8], numbers: [u64; 32]) -> bool {
     let mut at: usize = 0;
     let mut i: usize = 0;
     while i < text.len() {
         let b = text[i];
         i += 1;
         let n = numbers[at % 32];
-        at = at % 32 + put(out, b, n) % 2;
+        let moved = put(out, b, n);
+        if moved == UNWRITTEN {
+            return false;
+        }
+        at = at % 32 + moved % 2;
     }
+    true
 }
 
 // A text with up to four numbers, to standard output.
-pub fn print_with(text: &[u8], a: u64, b: u64, c: u64, d: u64) {
+pub fn print_with(text: &[u8], a: u64, b: u64, c: u64, d: u64) -> bool {
     let mut numbers = [0u64; 32];
     numbers[0] = a;
     numbers[1] = b;
     numbers[2] = c;
     numbers[3] = d;
-    fill(STDOUT_FILENO, text, numbers);
+    fill(STDOUT_FILENO, text, numbers)
 }
 
 pub fn long(b: u8) -> u64 {

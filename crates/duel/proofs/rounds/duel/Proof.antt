@@ -3,12 +3,16 @@ use Prim.Native.Nat.{_≤_, _-_}
 use borrow.Author.Needs.{needs}
 use Rattle.duel.proofs.rounds.duel.Statement.{statement}
 use Rattle.duel.proofs.rounds.duel.Tie as tie
+use Rattle.duel.proofs.rounds.duel.Reads as reads
+use Rattle.duel.proofs.rounds.duel.Lts as lts
+use Rattle.duel.proofs.rounds.run_round.Reads as run-round-reads
+use Rattle.rival.proofs.counts.zero.Reads as zero-reads
 
 abbrev Inv-loop : tie.InvT-loop
-Inv-loop n tally₀ round₀ t4 tally round = round ≤ n
+Inv-loop n tally₀ round₀ tally round = round ≤ n
 
 abbrev μ-loop : tie.MeasureT-loop
-μ-loop n tally₀ round₀ t4 tally round = n - round
+μ-loop n tally₀ round₀ tally round = n - round
 
 zero-requires : tie.Need-zero-requires Inv-loop μ-loop
 zero-requires c κs = search needs
@@ -28,18 +32,6 @@ loop-less c = search needs
 loop-again : tie.Need-loop-again Inv-loop μ-loop
 loop-again c = search needs
 
-slice-aggregate-print-with : tie.Need-slice-aggregate-print-with Inv-loop μ-loop
-slice-aggregate-print-with c = search needs
-
-cast-print-with : tie.Need-cast-print-with Inv-loop μ-loop
-cast-print-with c = search needs
-
-print-with-requires : tie.Need-print-with-requires Inv-loop μ-loop
-print-with-requires c κs = search needs
-
-print-all-requires : tie.Need-print-all-requires Inv-loop μ-loop
-print-all-requires c κs = search needs
-
 returns : tie.Need-returns Inv-loop μ-loop
 returns c = search needs
 
@@ -55,8 +47,4 @@ duel-spec =
     add-round
     loop-less
     loop-again
-    slice-aggregate-print-with
-    cast-print-with
-    print-with-requires
-    print-all-requires
     returns)

@@ -4,6 +4,9 @@ use borrow.Author.Needs.{needs}
 use lib.ListN.{length}
 use Rattle.rival.proofs.show.fill.Statement.{statement}
 use Rattle.rival.proofs.show.fill.Tie as tie
+use Rattle.rival.proofs.show.fill.Reads as reads
+use Rattle.rival.proofs.show.fill.Lts as lts
+use Rattle.rival.proofs.show.put.Reads as put-reads
 
 abbrev Inv-loop : tie.InvT-loop
 Inv-loop out text numbers at₀ i₀ at i = i ≤ length text
@@ -29,6 +32,9 @@ array-read-n c = search needs
 put-requires : tie.Need-put-requires Inv-loop μ-loop
 put-requires c κs = search needs
 
+returns : tie.Need-returns Inv-loop μ-loop
+returns c = search needs
+
 add-at : tie.Need-add-at Inv-loop μ-loop
 add-at c = search needs
 
@@ -38,8 +44,8 @@ loop-less c = search needs
 loop-again : tie.Need-loop-again Inv-loop μ-loop
 loop-again c = search needs
 
-returns : tie.Need-returns Inv-loop μ-loop
-returns c = search needs
+returns-2 : tie.Need-returns-2 Inv-loop μ-loop
+returns-2 c = search needs
 
 pub fill-spec : {M : Type 1} → statement M
 fill-spec =
@@ -53,7 +59,8 @@ fill-spec =
     mul-n
     array-read-n
     put-requires
+    returns
     add-at
     loop-less
     loop-again
-    returns)
+    returns-2)

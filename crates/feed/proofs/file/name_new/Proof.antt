@@ -1,11 +1,10 @@
-use Prim.Native.Nat.{_-_, _≤_}
-use native.Mathlib.Omega.{arith}
-use borrow.Author.Needs.{needs}
 use lib.ListN.{length}
-use Rattle.feed.proofs.name_new.Statement.{statement}
-use Rattle.feed.proofs.name_new.Tie as tie
-use Rattle.feed.proofs.name_new.Reads as reads
-use Rattle.feed.proofs.name_new.Lts as lts
+use borrow.Author.Needs.{needs}
+use Prim.Native.Nat.{_-_, _≤_}
+use Rattle.feed.proofs.file.name_new.Statement.{statement}
+use Rattle.feed.proofs.file.name_new.Tie as tie
+use Rattle.feed.proofs.file.name_new.Reads as reads
+use Rattle.feed.proofs.file.name_new.Lts as lts
 
 abbrev Inv-loop : tie.InvT-loop
 Inv-loop path name₀ i₀ name i = (i ≤ 4096)
@@ -13,67 +12,51 @@ Inv-loop path name₀ i₀ name i = (i ≤ 4096)
 abbrev μ-loop : tie.MeasureT-loop
 μ-loop path name₀ i₀ name i = length path - i
 
--- src/main.rt:111:5
 loop-holds : tie.Need-loop-holds Inv-loop μ-loop
 loop-holds c = search needs
 
--- src/main.rt:113:13
 returns : tie.Need-returns Inv-loop μ-loop
 returns c = search needs
 
--- src/main.rt:115:19
 shared-slice-read-name : tie.Need-shared-slice-read-name Inv-loop μ-loop
 shared-slice-read-name c = search needs
 
--- src/main.rt:115:9
 element-write-name : tie.Need-element-write-name Inv-loop μ-loop
 element-write-name c = search needs
 
--- src/main.rt:116:9
 add-i : tie.Need-add-i Inv-loop μ-loop
 add-i c = search needs
 
--- src/main.rt:111:5
 loop-less : tie.Need-loop-less Inv-loop μ-loop
 loop-less c = search needs
 
--- src/main.rt:111:5
 loop-again : tie.Need-loop-again Inv-loop μ-loop
 loop-again c = search needs
 
--- src/main.rt:118:5
 element-write-name-2 : tie.Need-element-write-name-2 Inv-loop μ-loop
 element-write-name-2 c = search needs
 
--- src/main.rt:119:10
 add-name : tie.Need-add-name Inv-loop μ-loop
 add-name c = search needs
 
--- src/main.rt:119:5
 element-write-name-3 : tie.Need-element-write-name-3 Inv-loop μ-loop
 element-write-name-3 c = search needs
 
--- src/main.rt:120:10
 add-name-2 : tie.Need-add-name-2 Inv-loop μ-loop
 add-name-2 c = search needs
 
--- src/main.rt:120:5
 element-write-name-4 : tie.Need-element-write-name-4 Inv-loop μ-loop
 element-write-name-4 c = search needs
 
--- src/main.rt:121:10
 add-name-3 : tie.Need-add-name-3 Inv-loop μ-loop
 add-name-3 c = search needs
 
--- src/main.rt:121:5
 element-write-name-5 : tie.Need-element-write-name-5 Inv-loop μ-loop
 element-write-name-5 c = search needs
 
--- src/main.rt:122:5
 add-result : tie.Need-add-result Inv-loop μ-loop
 add-result c = search needs
 
--- src/main.rt:107:1
 returns-2 : tie.Need-returns-2 Inv-loop μ-loop
 returns-2 c = search needs
 
