@@ -1,5 +1,6 @@
 // What the board has to do with a row: the facts of the board, as it is before the record, that choose the sentences.
 use board::Board;
+use timer::Counter;
 use words::answered;
 use words::asked;
 use words::notation;
@@ -37,27 +38,62 @@ pub fn answered(board: Board, r: [u8; 8], a: [u8; 16]) -> Text {
     sentences::answered(n, answered::facts(a))
 }
 
+const VERIFIED: u8 = 0x09;
+
+const TO_MEMORY: u8 = 0x0a;
+
+const FROM_MEMORY: u8 = 0x0b;
+
 // The sentence for a unit of a channel.
 fn unit(board: Board, channel: u8) -> u8 {
     let d = board.dma;
     let i = (channel % 4) as usize;
     let c = d.channels[i];
     match c.mode / 4 % 4 {
-        1 => 0x0a,
-        2 => 0x0b,
-        _ => 0x09,
+        1 => TO_MEMORY,
+        2 => FROM_MEMORY,
+        _ => VERIFIED,
     }
+}
+
+// The address that the answer's unit was written to; past every memory where none was.
+pub fn written(board: Board, a: [u8; 16]) -> u32 {
+    if a[0] != 0 {
+        return u32::MAX;
+    }
+    let unit = unit(board, a[5]);
+    if unit != TO_MEMORY {
+        return u32::MAX;
+    }
+    if answered::done(a[1], a[4], unit, 1) == TO_MEMORY {
+        return sentences::four(a, 8);
+    }
+    u32::MAX
 }
 
 // Why a record was refused, worked out from the record and the board before it.
 fn refusal(board: Board, r: [u8; 8], status: u8) -> Text {
     let d = board.dma;
     let i = board.icu;
-    let f = sentences::facts(r, status, d.channel, icu::highest(i.isr, i.lowest), 0);
+    let f = sentences::facts(
+        r,
+        status,
+        d.channel,
+        icu::highest(i.isr, i.lowest),
+        has_two_bytes(board, r[1]) as u8,
+    );
     if status == 5 {
         return sentences::refused(int_low(board), f);
     }
     sentences::refused(answered::reason(status, f, i.stage), f)
+}
+
+// Whether the count of a port's counter is written in two bytes.
+fn has_two_bytes(board: Board, port: u8) -> bool {
+    let t = board.timer;
+    let k = (port % 4 % 3) as usize;
+    let c = t.counters[k];
+    c.format == Counter::BOTH
 }
 
 // Status 5: whether nothing asks, or what asks is outranked.

@@ -3,17 +3,19 @@ use super::sentences;
 use super::text;
 use super::text::Text;
 
-// The bytes that are not zero as they were, in rows of 16; sixteen rows are shown, and the others counted.
-pub fn print(memory: &[u8; 65536]) -> bool {
+// The bytes that are marked as written, in rows of 16; sixteen rows are shown, and the others counted.
+pub fn print(memory: &[u8; 65536], marks: &[u8; 65536]) -> bool {
     let mut rows: u64 = 0;
     let mut k: usize = 0;
     while k < 4096 {
-        if is_zero_row(memory, k * 16) {
+        if is_unwritten_row(marks, k * 16) {
             k += 1;
             continue;
         }
         rows = text::more(rows);
-        print_changed(memory, k * 16, rows);
+        if !print_written(memory, marks, k * 16, rows) {
+            return false;
+        }
         k += 1;
     }
     print_end(rows)
@@ -29,21 +31,24 @@ fn print_end(rows: u64) -> bool {
     true
 }
 
-fn print_changed(memory: &[u8; 65536], at: usize, rows: u64) -> bool {
+fn print_written(memory: &[u8; 65536], marks: &[u8; 65536], at: usize, rows: u64) -> bool {
     if 16 < rows {
         return true;
     }
     if rows == 1 {
-        sentences::message(0x21, 0, 0).put(b'\n').print();
+        if sentences::message(0x21, 0, 0).put(b'\n').print() {
+            return print_row(memory, marks, at);
+        }
+        return false;
     }
-    print_row(memory, at)
+    print_row(memory, marks, at)
 }
 
-fn is_zero_row(memory: &[u8; 65536], at: usize) -> bool {
+fn is_unwritten_row(marks: &[u8; 65536], at: usize) -> bool {
     let mut i = 0;
     while i < 16 {
         let p = (at % 65536 + i) % 65536;
-        if memory[p] != 0 {
+        if marks[p] != 0 {
             return false;
         }
         i += 1;
@@ -51,14 +56,14 @@ fn is_zero_row(memory: &[u8; 65536], at: usize) -> bool {
     true
 }
 
-fn print_row(memory: &[u8; 65536], at: usize) -> bool {
+fn print_row(memory: &[u8; 65536], marks: &[u8; 65536], at: usize) -> bool {
     let mut t = Text::new().pad(2).address((at % 65536) as u32).put(b' ');
     let mut shown = Text::new();
     let mut i = 0;
     while i < 16 {
         let p = (at % 65536 + i) % 65536;
         let x = memory[p];
-        t = put_changed(t, x);
+        t = put_written(t, x, marks[p]);
         shown = put_shown(shown, x);
         i += 1;
     }
@@ -69,8 +74,8 @@ fn print_row(memory: &[u8; 65536], at: usize) -> bool {
         .print()
 }
 
-fn put_changed(t: Text, x: u8) -> Text {
-    if x == 0 {
+fn put_written(t: Text, x: u8, mark: u8) -> Text {
+    if mark == 0 {
         return t.put(b' ').put(b'-').put(b'-');
     }
     t.put(b' ').hex(x)

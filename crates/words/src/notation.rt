@@ -1,12 +1,13 @@
 // The notation for tapes: a line read as a record, and a record written as a line.
 ghost use Prim.Native.Nat.{_<_};
 
-// What a line comes to: nothing, a record, or what was expected at a column.
+// What a line comes to: nothing, a record, or the sentence that says what is wrong at a column.
 pub struct Parsed {
     pub kind: u8,
-    pub record: [u8; 8],
+    // the record, or the bytes that stand at the column
+    pub bytes: [u8; 8],
     pub column: usize,
-    pub expected: u8,
+    pub wrong: u8,
 }
 
 impl Parsed {
@@ -19,37 +20,37 @@ impl Parsed {
     fn empty() -> Parsed {
         Parsed {
             kind: Parsed::EMPTY,
-            record: [0u8; 8],
+            bytes: [0u8; 8],
             column: 0,
-            expected: 0,
+            wrong: 0,
         }
     }
 
     fn record(r: [u8; 8]) -> Parsed {
         Parsed {
             kind: Parsed::RECORD,
-            record: r,
+            bytes: r,
             column: 0,
-            expected: 0,
+            wrong: 0,
         }
     }
 
     // Columns count from 1.
-    fn bad(at: usize, expected: u8) -> Parsed {
+    fn bad(at: usize, wrong: u8, bytes: [u8; 8]) -> Parsed {
         let mut column = 1001;
         if at < 1000 {
             column = at + 1;
         }
         Parsed {
             kind: Parsed::BAD,
-            record: [0u8; 8],
+            bytes: bytes,
             column: column,
-            expected: expected,
+            wrong: wrong,
         }
     }
 }
 
-// What may be expected at a column, by the number of its sentence.
+// What may be expected at a column, or stand there, by the number of its sentence.
 const WORD: u8 = 0;
 
 const PORT: u8 = 1;
@@ -68,16 +69,34 @@ const RAW: u8 = 7;
 
 const NOTHING: u8 = 8;
 
-pub const SHORTER: u8 = 9;
+const SHORTER: u8 = 9;
 
 pub const LINE_FEED: u8 = 10;
+
+// From here on they say what stands there.
+const BYTE_ORDER_MARK: u8 = 11;
+
+const UTF_16: u8 = 12;
+
+const NO_BREAK_SPACE: u8 = 13;
+
+const SOFT_HYPHEN: u8 = 14;
+
+const ODD_SPACE: u8 = 15;
+
+const CONTROL: u8 = 16;
+
+const CARRIAGE_RETURN: u8 = 17;
+
+const NOT_ASCII: u8 = 18;
+
+pub const ENDLESS: u8 = 19;
 
 // Whether a word ends at a byte, or where blanks are passed over, whether they do. A comment ends both.
 fn is_end_of(b: u8, word: bool) -> bool {
     match b {
         b' ' => word,
         b'\t' => word,
-        b'\r' => word,
         b'#' => true,
         _ => !word,
     }
@@ -221,13 +240,122 @@ fn next_word(line: &[u8; 1000], n: usize, at: usize) -> Word {
     other_word(start, end)
 }
 
+// A word that is not understood: a byte in it that may not be seen for what it is, or else what was expected in its place.
+fn bad_word(line: &[u8; 1000], w: Word, expected: u8) -> Parsed {
+    let at = find(line, w.start, w.end, false);
+    if w.end <= at {
+        return Parsed::bad(w.start, expected, [0u8; 8]);
+    }
+    let first = byte_after(line, at, 0, w.end);
+    let second = byte_after(line, at, 1, w.end);
+    let third = byte_after(line, at, 2, w.end);
+    Parsed::bad(
+        at,
+        name_strange(at, first, second, third),
+        [first, second, third, 0, 0, 0, 0, 0],
+    )
+}
+
+// The first byte, from start to end, that is no plain character, or the first carriage return; end where there is none.
+fn find(line: &[u8; 1000], start: usize, end: usize, is_return: bool) -> usize {
+    let mut i = start;
+    while i < 1000 {
+        if end <= i {
+            return end;
+        }
+        if is_strange(line[i], is_return) {
+            return i;
+        }
+        i += 1;
+    }
+    end
+}
+
+fn is_strange(b: u8, is_return: bool) -> bool {
+    if is_return {
+        return b == b'\r';
+    }
+    if b < 32 {
+        return true;
+    }
+    126 < b
+}
+
+// The byte k places after another of a word, 0 past its end.
+fn byte_after(line: &[u8; 1000], at: usize, k: usize, end: usize) -> u8 {
+    if 999 < at {
+        return 0;
+    }
+    let i = at + k % 3;
+    if i < end {
+        return byte_at(line, i);
+    }
+    0
+}
+
+// The sentence for a byte that is no plain character, by its place, itself and the two after it.
+fn name_strange(at: usize, first: u8, second: u8, third: u8) -> u8 {
+    match first {
+        b'\r' => CARRIAGE_RETURN,
+        127 => CONTROL,
+        0xc2 => name_after_c2(second),
+        0xe2 => name_after_e2(second, third),
+        0xe3 => name_if_both(second == 0x80, third == 0x80, ODD_SPACE),
+        0xef => name_if_both(second == 0xbb, third == 0xbf, BYTE_ORDER_MARK),
+        0xfe => name_if_both(at == 0, second == 0xff, UTF_16),
+        0xff => name_if_both(at == 0, second == 0xfe, UTF_16),
+        _ => match first / 32 {
+            0 => CONTROL,
+            _ => NOT_ASCII,
+        },
+    }
+}
+
+fn name_if_both(one: bool, other: bool, name: u8) -> u8 {
+    if one {
+        if other {
+            return name;
+        }
+        return NOT_ASCII;
+    }
+    NOT_ASCII
+}
+
+fn name_after_c2(second: u8) -> u8 {
+    match second {
+        0xa0 => NO_BREAK_SPACE,
+        0xad => SOFT_HYPHEN,
+        _ => NOT_ASCII,
+    }
+}
+
+// E2 80 80 to 8F and A8 to AF are spaces and marks that are not seen, and so are E2 81 9F to AF.
+fn name_after_e2(second: u8, third: u8) -> u8 {
+    match second {
+        0x80 => match third / 8 {
+            16 => ODD_SPACE,
+            17 => ODD_SPACE,
+            21 => ODD_SPACE,
+            _ => NOT_ASCII,
+        },
+        0x81 => match third {
+            0x9f => ODD_SPACE,
+            _ => match third / 16 {
+                10 => ODD_SPACE,
+                _ => NOT_ASCII,
+            },
+        },
+        _ => NOT_ASCII,
+    }
+}
+
 // The record, if nothing else stands on the line.
 fn close(line: &[u8; 1000], n: usize, at: usize, r: [u8; 8]) -> Parsed {
     let w = next_word(line, n, at);
     if w.start == w.end {
         return Parsed::record(r);
     }
-    Parsed::bad(w.start, NOTHING)
+    bad_word(line, w, NOTHING)
 }
 
 // A decimal number that four bytes hold, or a number past them.
@@ -254,11 +382,11 @@ fn decimal(line: &[u8; 1000], start: usize, end: usize) -> u64 {
 fn parse_advance(line: &[u8; 1000], n: usize, at: usize) -> Parsed {
     let w = next_word(line, n, at);
     if w.start == w.end {
-        return Parsed::bad(w.start, PULSES);
+        return bad_word(line, w, PULSES);
     }
     let v = decimal(line, w.start, w.end);
     if 4294967295 < v {
-        return Parsed::bad(w.start, PULSES);
+        return bad_word(line, w, PULSES);
     }
     let pulses = tape::little((v % 4294967296) as u32);
     close(
@@ -282,9 +410,9 @@ fn parse_cycle(line: &[u8; 1000], n: usize, at: usize) -> Parsed {
         if verb(line, w.start, w.end) == THE_END {
             return close(line, n, w.end, [6, 1, device.byte, 0, 0, 0, 0, 0]);
         }
-        return Parsed::bad(w.start, END);
+        return bad_word(line, w, END);
     }
-    Parsed::bad(device.start, DEVICE)
+    bad_word(line, device, DEVICE)
 }
 
 // A line that is bytes after its first word: what its record starts with, which of its bytes follow, and what is expected where one is missing.
@@ -354,7 +482,7 @@ fn parse_bytes(line: &[u8; 1000], n: usize, at: usize, f: Form) -> Parsed {
     while k < to {
         let w = next_word(line, n, from);
         if !w.is_byte {
-            return Parsed::bad(w.start, missing(f.expected, k));
+            return bad_word(line, w, missing(f.expected, k));
         }
         let i = k % 8;
         r[i] = w.byte;
@@ -364,8 +492,37 @@ fn parse_bytes(line: &[u8; 1000], n: usize, at: usize, f: Form) -> Parsed {
     close(line, n, from, r)
 }
 
-// A line of n bytes.
+// A line of n bytes, up to its line feed. A carriage return elsewhere is no blank, and stands in no comment either: what comes after it looks like lines of its own.
 pub fn parse(line: &[u8; 1000], n: usize) -> Parsed {
+    let end = without_return(line, n);
+    let at = find(line, 0, end, true);
+    if at < end {
+        return Parsed::bad(at, CARRIAGE_RETURN, [0u8; 8]);
+    }
+    parse_words(line, end)
+}
+
+// What is wrong with a line that is too long, by its first bytes: a text whose lines end in carriage returns alone is one such line.
+pub fn parse_long(line: &[u8; 1000]) -> Parsed {
+    let at = find(line, 0, 1000, true);
+    if at < 1000 {
+        return Parsed::bad(at, CARRIAGE_RETURN, [0u8; 8]);
+    }
+    Parsed::bad(1000, SHORTER, [0u8; 8])
+}
+
+// A carriage return just before the line feed belongs to it.
+fn without_return(line: &[u8; 1000], n: usize) -> usize {
+    if n == 0 {
+        return 0;
+    }
+    if byte_at(line, n - 1) == b'\r' {
+        return n - 1;
+    }
+    n
+}
+
+fn parse_words(line: &[u8; 1000], n: usize) -> Parsed {
     let w = next_word(line, n, 0);
     if w.start == w.end {
         return Parsed::empty();
@@ -380,7 +537,7 @@ pub fn parse(line: &[u8; 1000], n: usize) -> Parsed {
     if v == CYCLE {
         return parse_cycle(line, n, w.end);
     }
-    Parsed::bad(w.start, WORD)
+    bad_word(line, w, WORD)
 }
 
 // Bytes 3 to 7 of a record are zero; it stands first among the facts.

@@ -123,7 +123,8 @@ pub fn answered(n: u8, facts: [u8; 16]) -> Text {
     )
 }
 
-// Why a record was refused. The facts: 0 to 7 are the record, 8 the status, 9 the DMA channel that has the bus, A the level in service.
+// Why a record was refused. The facts: 0 to 7 are the record, 8 the status, 9 the DMA channel that has the bus, A the level in service, B whether the count
+// that is written has two bytes.
 pub fn refused(n: u8, facts: [u8; 16]) -> Text {
     fill(
         b"
@@ -171,7 +172,7 @@ pub fn refused(n: u8, facts: [u8; 16]) -> Text {
 51 5: INT is low, every level that asks is masked
 52 5: INT is low, level %A08 is in service and not outranked
 
-60 %808: a count of 1 is not for mode 2; the least is 2
+60 %808: a count of 1 is not for mode 2; the least is 2{B01|. The low byte is kept: write the high byte next, or the control word again}
 ",
         n,
         facts,
@@ -180,15 +181,15 @@ pub fn refused(n: u8, facts: [u8; 16]) -> Text {
     )
 }
 
-// What the program says of a lesson or a tape. The first ones follow the name of a file.
-pub fn message(n: u8, first: u64, second: u64) -> Text {
+// What is wrong with a line, after the name of its file. The facts 0 to 2 are the bytes that stand at the column.
+pub fn bad_line(n: u8, line: u64, column: u64, found: [u8; 8]) -> Text {
     fill(
         b"
 00 :&0:&1: expected reset, write, read, intp, gates, requests, acknowledge, advance, cycle, raw or a # comment
 01 :&0:&1: expected a port, one or two hexadecimal digits
 02 :&0:&1: expected the byte to write, one or two hexadecimal digits
 03 :&0:&1: expected the levels, one or two hexadecimal digits
-04 :&0:&1: expected the number of pulses, decimal, at most 4294967295
+04 :&0:&1: expected the number of pulses, decimal, at most 65535
 05 :&0:&1: expected the device's byte, one or two hexadecimal digits, or the end of the line
 06 :&0:&1: expected the word end, or the end of the line
 07 :&0:&1: expected one of the eight bytes of a raw record, one or two hexadecimal digits
@@ -196,19 +197,48 @@ pub fn message(n: u8, first: u64, second: u64) -> Text {
 09 :&0:&1: expected the end of the line by here: a line has at most 1000 characters
 0A :&0:&1: expected a line feed at the end of the last line; the file may be cut short
 
+0B :&0:&1: a byte order mark ($0 $1 $2), which is not seen; save the file as UTF-8 without one
+0C :&0:&1: $0 $1, the mark of a UTF-16 file; save the file as UTF-8 or as plain text
+0D :&0:&1: a no-break space ($0 $1), which looks like a space; type a space in its place
+0E :&0:&1: a soft hyphen ($0 $1), which is not seen; delete it
+0F :&0:&1: an unusual space, or a mark that is not seen ($0 $1 $2); delete it, or type a space in its place
+10 :&0:&1: a control character, number $0, which is not seen; delete it
+11 :&0:&1: a carriage return that no line feed follows; end each line with a line feed, or with both
+12 :&0:&1: the byte $0, which is no plain ASCII character; it may look like a letter or a digit and be none: type it anew
+13 :&0:&1: no line feed up to here; the rest was not read
+",
+        n,
+        facts(found, 0, 0, 0, 0),
+        line,
+        column,
+    )
+}
+
+// What the program says of a lesson, a tape or an argument. Those before 20 follow its name.
+pub fn message(n: u8, first: u64, second: u64) -> Text {
+    fill(
+        b"
 10 : bad lines: &0; nothing was run
 11 : bad lines: &0; nothing was written
-12 : bad lines: &0; the tape ends after record &1
-13 : there is no record in it; nothing was run
-14 : there is no record in it; nothing was written
-15 : not a file that can be read twice; nothing was run
-16  is empty
-17  ends inside a record or an answer; bytes left over: &0
+12 : bad lines: &0, and there may be more, since the rest was not read; nothing was run
+13 : bad lines: &0, and there may be more, since the rest was not read; nothing was written
+14 : there is no record in it; nothing was run
+15 : there is no record in it; nothing was written
+16 : not a file that can be read twice; nothing was run
+17  is empty
+18  ends inside a record or an answer; bytes left over: &0
+19 : no such word, and no such file
+1A : there are no options; a file of that name is given as ./NAME
+1B : one FILE too many; assemble, list and explain take one each
+1C : an argument is empty
+1D : pieces takes a FILE, or more
 
 20 records: &0, refused: &1
-21 memory that changed:
+21 memory that was written:
 22 memory: nothing changed
 23   and &0 rows more
+24 lesson: the temporary file in /tmp could not be read back
+25 lesson: a temporary file would take the place of standard input, output or error, one of which is closed
 ",
         n,
         [0u8; 16],
@@ -227,11 +257,12 @@ pub fn print_heads() -> bool {
 pub fn print_usage() {
     io::write_all(
         STDERR_FILENO,
-        b"usage: lesson FILE..                        runs lessons
-       lesson assemble <LESSON >TAPE        the notation as a tape
-       lesson list <TAPE                    a tape in the notation
-       lesson explain <ANSWERS              answers in words
-       lesson pieces FILE..                 a lesson's records and answers, one by one
+        b"usage: lesson FILE..              runs lessons
+       lesson pieces FILE..       a lesson's records and answers, one by one
+       lesson assemble [FILE]     the notation as a tape
+       lesson list [FILE]         a tape in the notation
+       lesson explain [FILE]      answers in words
+With no FILE, assemble, list and explain take standard input.
 ",
     );
 }

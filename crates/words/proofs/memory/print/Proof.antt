@@ -4,19 +4,19 @@ use Rattle.words.proofs.memory.print.Statement.{statement}
 use Rattle.words.proofs.memory.print.Tie as tie
 
 abbrev Inv-loop : tie.InvT-loop
-Inv-loop memory rows₀ k₀ rows k = Unit {0}
+Inv-loop memory marks rows₀ k₀ rows k = Unit {0}
 
 abbrev μ-loop : tie.MeasureT-loop
-μ-loop memory rows₀ k₀ rows k = 4096 - k
+μ-loop memory marks rows₀ k₀ rows k = 4096 - k
 
 loop-holds : tie.Need-loop-holds Inv-loop μ-loop
 loop-holds c = search needs
 
-mul-is-zero-row : tie.Need-mul-is-zero-row Inv-loop μ-loop
-mul-is-zero-row c = search needs
+mul-is-unwritten-row : tie.Need-mul-is-unwritten-row Inv-loop μ-loop
+mul-is-unwritten-row c = search needs
 
-is-zero-row-requires : tie.Need-is-zero-row-requires Inv-loop μ-loop
-is-zero-row-requires c κs = search needs
+is-unwritten-row-requires : tie.Need-is-unwritten-row-requires Inv-loop μ-loop
+is-unwritten-row-requires c κs = search needs
 
 add-k : tie.Need-add-k Inv-loop μ-loop
 add-k c = search needs
@@ -30,11 +30,14 @@ loop-again c = search needs
 more-requires : tie.Need-more-requires Inv-loop μ-loop
 more-requires c κs = search needs
 
-mul-print-changed : tie.Need-mul-print-changed Inv-loop μ-loop
-mul-print-changed c = search needs
+mul-print-written : tie.Need-mul-print-written Inv-loop μ-loop
+mul-print-written c = search needs
 
-print-changed-requires : tie.Need-print-changed-requires Inv-loop μ-loop
-print-changed-requires c κs = search needs
+print-written-requires : tie.Need-print-written-requires Inv-loop μ-loop
+print-written-requires c κs = search needs
+
+returns : tie.Need-returns Inv-loop μ-loop
+returns c = search needs
 
 add-k-2 : tie.Need-add-k-2 Inv-loop μ-loop
 add-k-2 c = search needs
@@ -48,8 +51,8 @@ loop-again-2 c = search needs
 print-end-requires : tie.Need-print-end-requires Inv-loop μ-loop
 print-end-requires c κs = search needs
 
-returns : tie.Need-returns Inv-loop μ-loop
-returns c = search needs
+returns-2 : tie.Need-returns-2 Inv-loop μ-loop
+returns-2 c = search needs
 
 pub print-spec : {M : Type 1} → statement M
 print-spec =
@@ -58,16 +61,17 @@ print-spec =
     Inv-loop
     μ-loop
     loop-holds
-    mul-is-zero-row
-    is-zero-row-requires
+    mul-is-unwritten-row
+    is-unwritten-row-requires
     add-k
     loop-less
     loop-again
     more-requires
-    mul-print-changed
-    print-changed-requires
+    mul-print-written
+    print-written-requires
+    returns
     add-k-2
     loop-less-2
     loop-again-2
     print-end-requires
-    returns)
+    returns-2)

@@ -2,12 +2,22 @@ use Prim.Native.Nat.{_-_}
 use borrow.Author.Needs.{needs}
 use Rattle.words.proofs.memory.print_row.Statement.{statement}
 use Rattle.words.proofs.memory.print_row.Tie as tie
+use Rattle.words.proofs.memory.print_row.Reads as reads
+use Rattle.words.proofs.memory.print_row.Lts as lts
+use Rattle.words.proofs.memory.put_shown.Reads as put-shown-reads
+use Rattle.words.proofs.memory.put_written.Reads as put-written-reads
+use Rattle.words.proofs.text.Text.address.Reads as address-reads
+use Rattle.words.proofs.text.Text.new.Reads as new-reads
+use Rattle.words.proofs.text.Text.pad.Reads as pad-reads
+use Rattle.words.proofs.text.Text.part.Reads as part-reads
+use Rattle.words.proofs.text.Text.print.Reads as print-reads
+use Rattle.words.proofs.text.Text.put.Reads as put-reads
 
 abbrev Inv-loop : tie.InvT-loop
-Inv-loop memory at t₀ shown₀ i₀ t shown i = Unit {0}
+Inv-loop memory marks at t₀ shown₀ i₀ t shown i = Unit {0}
 
 abbrev μ-loop : tie.MeasureT-loop
-μ-loop memory at t₀ shown₀ i₀ t shown i = 16 - i
+μ-loop memory marks at t₀ shown₀ i₀ t shown i = 16 - i
 
 new-requires : tie.Need-new-requires Inv-loop μ-loop
 new-requires c κs = search needs
@@ -36,8 +46,11 @@ add-p c = search needs
 element-copy-out-x : tie.Need-element-copy-out-x Inv-loop μ-loop
 element-copy-out-x c = search needs
 
-put-changed-requires : tie.Need-put-changed-requires Inv-loop μ-loop
-put-changed-requires c κs = search needs
+element-copy-out-put-written : tie.Need-element-copy-out-put-written Inv-loop μ-loop
+element-copy-out-put-written c = search needs
+
+put-written-requires : tie.Need-put-written-requires Inv-loop μ-loop
+put-written-requires c κs = search needs
 
 put-shown-requires : tie.Need-put-shown-requires Inv-loop μ-loop
 put-shown-requires c κs = search needs
@@ -84,7 +97,8 @@ print-row-spec =
     loop-holds
     add-p
     element-copy-out-x
-    put-changed-requires
+    element-copy-out-put-written
+    put-written-requires
     put-shown-requires
     add-i
     loop-less

@@ -2,6 +2,12 @@ use Prim.Native.Nat.{_-_}
 use borrow.Author.Needs.{needs}
 use Rattle.words.proofs.notation.parse_bytes.Statement.{statement}
 use Rattle.words.proofs.notation.parse_bytes.Tie as tie
+use Rattle.words.proofs.notation.parse_bytes.Reads as reads
+use Rattle.words.proofs.notation.parse_bytes.Lts as lts
+use Rattle.words.proofs.notation.bad_word.Reads as bad-word-reads
+use Rattle.words.proofs.notation.close.Reads as close-reads
+use Rattle.words.proofs.notation.missing.Reads as missing-reads
+use Rattle.words.proofs.notation.next_word.Reads as next-word-reads
 
 abbrev Inv-loop : tie.InvT-loop
 Inv-loop line n at f r₀ from₀ to k₀ r from k = Unit {0}
@@ -18,8 +24,8 @@ next-word-requires c κs = search needs
 missing-requires : tie.Need-missing-requires Inv-loop μ-loop
 missing-requires c κs = search needs
 
-bad-requires : tie.Need-bad-requires Inv-loop μ-loop
-bad-requires c κs = search needs
+bad-word-requires : tie.Need-bad-word-requires Inv-loop μ-loop
+bad-word-requires c κs = search needs
 
 returns : tie.Need-returns Inv-loop μ-loop
 returns c = search needs
@@ -51,7 +57,7 @@ parse-bytes-spec =
     loop-holds
     next-word-requires
     missing-requires
-    bad-requires
+    bad-word-requires
     returns
     array-write-r
     add-k

@@ -1,15 +1,15 @@
 use Prim.Native.Nat.{_-_}
 use borrow.Author.Needs.{needs}
-use Rattle.words.proofs.memory.is_zero_row.Statement.{statement}
-use Rattle.words.proofs.memory.is_zero_row.Tie as tie
-use Rattle.words.proofs.memory.is_zero_row.Reads as reads
-use Rattle.words.proofs.memory.is_zero_row.Lts as lts
+use Rattle.words.proofs.memory.is_unwritten_row.Statement.{statement}
+use Rattle.words.proofs.memory.is_unwritten_row.Tie as tie
+use Rattle.words.proofs.memory.is_unwritten_row.Reads as reads
+use Rattle.words.proofs.memory.is_unwritten_row.Lts as lts
 
 abbrev Inv-loop : tie.InvT-loop
-Inv-loop memory at i₀ i = Unit {0}
+Inv-loop marks at i₀ i = Unit {0}
 
 abbrev μ-loop : tie.MeasureT-loop
-μ-loop memory at i₀ i = 16 - i
+μ-loop marks at i₀ i = 16 - i
 
 loop-holds : tie.Need-loop-holds Inv-loop μ-loop
 loop-holds c = search needs
@@ -35,8 +35,8 @@ loop-again c = search needs
 returns-2 : tie.Need-returns-2 Inv-loop μ-loop
 returns-2 c = search needs
 
-pub is-zero-row-spec : {M : Type 1} → statement M
-is-zero-row-spec =
+pub is-unwritten-row-spec : {M : Type 1} → statement M
+is-unwritten-row-spec =
     tie.close
     (tie.spec
     Inv-loop

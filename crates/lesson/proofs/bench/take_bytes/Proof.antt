@@ -1,17 +1,17 @@
 use Prim.Native.Nat.{_-_}
 use borrow.Author.Needs.{needs}
 use lib.ListN.{length}
-use Rattle.lesson.proofs.take_bytes.Statement.{statement}
-use Rattle.lesson.proofs.take_bytes.Tie as tie
-use Rattle.lesson.proofs.take_bytes.Reads as reads
-use Rattle.lesson.proofs.take_bytes.Lts as lts
-use Rattle.lesson.proofs.take_byte.Reads as take-byte-reads
+use Rattle.lesson.proofs.bench.take_bytes.Statement.{statement}
+use Rattle.lesson.proofs.bench.take_bytes.Tie as tie
+use Rattle.lesson.proofs.bench.take_bytes.Reads as reads
+use Rattle.lesson.proofs.bench.take_bytes.Lts as lts
+use Rattle.lesson.proofs.bench.take_byte.Reads as take-byte-reads
 
 abbrev Inv-loop : tie.InvT-loop
-Inv-loop path line₀ store₀ lump next₀ i₀ line store next i = Unit {0}
+Inv-loop path line₀ store₀ marks₀ lump next₀ i₀ line store marks next i = Unit {0}
 
 abbrev μ-loop : tie.MeasureT-loop
-μ-loop path line₀ store₀ lump next₀ i₀ line store next i = length lump - i
+μ-loop path line₀ store₀ marks₀ lump next₀ i₀ line store marks next i = length lump - i
 
 loop-holds : tie.Need-loop-holds Inv-loop μ-loop
 loop-holds c = search needs

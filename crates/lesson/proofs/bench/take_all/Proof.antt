@@ -1,17 +1,16 @@
 use borrow.Author.Needs.{needs}
-use Rattle.lesson.proofs.take_all.Statement.{statement}
-use Rattle.lesson.proofs.take_all.Tie as tie
-use Rattle.lesson.proofs.take_all.Reads as reads
-use Rattle.lesson.proofs.take_all.Lts as lts
-use Rattle.lesson.proofs.end_text.Reads as end-text-reads
-use Rattle.lesson.proofs.start.Reads as start-reads
-use Rattle.lesson.proofs.take_lump.Reads as take-lump-reads
+use Rattle.lesson.proofs.bench.take_all.Statement.{statement}
+use Rattle.lesson.proofs.bench.take_all.Tie as tie
+use Rattle.lesson.proofs.bench.take_all.Reads as reads
+use Rattle.lesson.proofs.bench.take_all.Lts as lts
+use Rattle.lesson.proofs.bench.start.Reads as start-reads
+use Rattle.lesson.proofs.bench.take_lump.Reads as take-lump-reads
 
 abbrev Inv-loop : tie.InvT-loop
-Inv-loop mode fd path line₀ store₀ bench₀ turns₀ line store bench turns = Unit {0}
+Inv-loop mode fd path line₀ store₀ marks₀ bench₀ turns₀ line store marks bench turns = Unit {0}
 
 abbrev μ-loop : tie.MeasureT-loop
-μ-loop mode fd path line₀ store₀ bench₀ turns₀ line store bench turns = turns
+μ-loop mode fd path line₀ store₀ marks₀ bench₀ turns₀ line store marks bench turns = turns
 
 start-requires : tie.Need-start-requires Inv-loop μ-loop
 start-requires c κs = search needs
@@ -21,9 +20,6 @@ loop-holds c = search needs
 
 take-lump-requires : tie.Need-take-lump-requires Inv-loop μ-loop
 take-lump-requires c κs = search needs
-
-end-text-requires : tie.Need-end-text-requires Inv-loop μ-loop
-end-text-requires c κs = search needs
 
 returns : tie.Need-returns Inv-loop μ-loop
 returns c = search needs
@@ -49,7 +45,6 @@ take-all-spec =
     start-requires
     loop-holds
     take-lump-requires
-    end-text-requires
     returns
     sub-turns
     loop-less

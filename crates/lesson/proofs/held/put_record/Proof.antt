@@ -1,7 +1,7 @@
 use Prim.Native.Nat.{_-_}
 use borrow.Author.Needs.{needs}
-use Rattle.lesson.proofs.put_record.Statement.{statement}
-use Rattle.lesson.proofs.put_record.Tie as tie
+use Rattle.lesson.proofs.held.put_record.Statement.{statement}
+use Rattle.lesson.proofs.held.put_record.Tie as tie
 
 abbrev Inv-loop : tie.InvT-loop
 Inv-loop tape₀ at r k₀ tape k = Unit {0}
