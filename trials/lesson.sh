@@ -1,0 +1,545 @@
+# Trials of `lesson`; trials/run reads them.
+# shellcheck shell=sh disable=SC2154
+
+good() { printf 'reset\nwrite 13 10\nread 10\n'; }
+# good as a tape
+good_tape() { printf '\0\0\0\0\0\0\0\0\001\023\020\0\0\0\0\0\002\020\0\0\0\0\0\0'; }
+
+trial_lesson_usage() { # no argument, --help, an option, a filter's second file, pieces without one, an empty argument: the usage, and nothing is run
+    good >a
+    cp a b.lesson
+    for words in '' --help -h 'b.lesson -x' 'assemble b.lesson a' 'list a b.lesson' 'explain a b.lesson' pieces 'b.lesson pieces' 'pieces list a' \
+        'assemble --help' 'list -'; do
+        # shellcheck disable=SC2086
+        start lesson $words
+        usage
+    done
+    start lesson b.lesson ''
+    usage
+    start lesson assemble ''
+    usage
+}
+
+trial_lesson_mistyped_word() { # a mistyped word is told as such, with the usage, before anything is run; a file of letters alone is a lesson
+    good >b.lesson
+    for word in asemble Assemble help piece; do
+        start lesson "$word" <b.lesson
+        usage
+        says_of "$word" 'no such word'
+        says 'no such file'
+    done
+    start lesson b.lesson asemble
+    usage
+    start lesson b.lesson list b.lesson exlpain b.lesson
+    usage
+    good >mine
+    start lesson mine
+    status_is 0
+    silent
+    # a word is the word, even where a file has its name
+    good >list
+    good_tape >tape
+    start lesson list tape
+    status_is 0
+    same out b.lesson
+    start lesson ./list
+    status_is 0
+    expect 'the first line' ./list "$(head -n 1 out)"
+}
+
+trial_lesson_missing_file() { # a missing file is told, with status 1, and the lessons after it still run
+    good >b.lesson
+    start lesson b.lesson
+    cp out one
+    start lesson missing.lesson b.lesson
+    status_is 1
+    says_of missing.lesson 'No such file or directory'
+    wrote one
+    for word in assemble list explain; do
+        start lesson "$word" missing.lesson
+        status_is 1
+        says_of missing.lesson 'No such file or directory'
+        wrote_nothing
+    done
+    # a bad lesson does not stop the good one after it either
+    echo wriet >bad.lesson
+    start lesson bad.lesson b.lesson
+    status_is 1
+    says_of bad.lesson:1:1:
+    wrote one
+}
+
+trial_lesson_filters() { # assemble, list and explain take a file or standard input, and several stand on one line
+    good >b.lesson
+    good_tape >t
+    start lesson assemble b.lesson
+    status_is 0
+    silent
+    wrote t
+    start lesson assemble <b.lesson
+    status_is 0
+    silent
+    wrote t
+    start lesson list t
+    status_is 0
+    silent
+    wrote b.lesson
+    start lesson list <t
+    status_is 0
+    wrote b.lesson
+    start lesson explain "$answers"
+    status_is 0
+    silent
+    cp out words
+    expect 'lines, with the heads' $(($(wc -c <"$answers") / 16 + 1)) "$(grep -c '^ *[0-9l]' words)"
+    start lesson explain <"$answers"
+    status_is 0
+    wrote words
+    start lesson b.lesson
+    cp out rows
+    start lesson pieces b.lesson
+    status_is 0
+    cp out pieces
+    cat rows pieces b.lesson t words >all
+    start lesson b.lesson pieces b.lesson list t assemble b.lesson explain <"$answers"
+    status_is 0
+    silent
+    wrote all
+}
+
+trial_lesson_lessons() { # the lessons of the class run, and go to a tape and back
+    start lesson "$lessons"/*.lesson
+    status_is 0
+    silent
+    expect 'titles' "$(echo "$lessons"/*.lesson)" "$(grep '[.]lesson$' out | tr '\n' ' ' | sed 's/ $//')"
+    for lesson in status tour; do
+        start lesson assemble "$lessons/$lesson.lesson"
+        status_is 0
+        cp out t
+        start lesson list t
+        status_is 0
+        cp out listed
+        start lesson assemble listed
+        status_is 0
+        wrote t
+    done
+}
+
+# lesson_of N LINE: N lines of a good lesson, and then the line.
+lesson_of() { yes 'read 10' | head -n "$1"; [ -z "${2-}" ] || echo "$2"; }
+
+trial_lesson_bad_line_no_tape() { # a lesson with its bad line last makes no byte of a tape, of any length, from a file or from a pipe
+    for records in 3 8192 8193 20000; do
+        lesson_of $records 'wriet 13 10' >bad
+        start lesson assemble bad
+        status_is 1
+        wrote_nothing
+        says_of "bad:$((records + 1)):1:" 'expected reset'
+        says_of bad: 'nothing was written'
+        start lesson assemble <bad
+        status_is 1
+        wrote_nothing
+        says "standard input:$((records + 1)):1: expected reset"
+    done
+    lesson_of 20000 'wriet 13 10' >bad
+    start lesson bad
+    status_is 1
+    wrote_nothing
+    says 'nothing was run'
+    asked="a pipe of 20,001 lines | ./run lesson assemble"
+    lesson_of 20000 'wriet 13 10' | { "$run" lesson assemble >out 2>said; echo $? >ended; }
+    status=$(cat ended)
+    status_is 1
+    wrote_nothing
+}
+
+trial_lesson_long_tape() { # a good lesson of any length makes its whole tape, and nothing is left in the folder for temporary files
+    ls -d /tmp/lesson-* >before 2>/dev/null
+    for records in 1 8191 8192 8193 20000; do
+        lesson_of $records >text
+        printf '\002\020\0\0\0\0\0\0' >t
+        while [ "$(($(wc -c <t)))" -lt $((records * 8)) ]; do cat t t >twice; mv twice t; done
+        truncate -s $((records * 8)) t
+        start lesson assemble text
+        status_is 0
+        silent
+        wrote t
+    done
+    start lesson assemble <text
+    status_is 0
+    wrote t
+    ls -d /tmp/lesson-* >after 2>/dev/null
+    same before after
+}
+
+trial_lesson_no_room_for_tape() { # a long tape that cannot be held back: a message, status 1, and no byte of it goes out
+    lesson_of 40000 >text
+    asked='./run lesson assemble text (with files of at most 131,072 bytes)'
+    {
+        (
+            ulimit -f 256
+            exec timeout "$limit" "$run" lesson assemble text 2>said
+        )
+        echo $? >ended
+    } | cat >out
+    status=$(cat ended)
+    status_is 1
+    wrote_nothing
+    says_of lesson: 'File too large'
+}
+
+# fails_at PLACES WORDS..: the words' output is cut short at these bytes, counted from its end where they are below zero: each time a message and
+# status 1. With room for all of it, it ends well.
+fails_at() {
+    places=$1
+    shift
+    start "$@"
+    status_is 0
+    length=$(($(wc -c <out)))
+    for place in $places; do
+        [ "${place#-}" = "$place" ] || place=$((length + place))
+        if [ "$place" -lt 0 ] || [ "$place" -ge "$length" ]; then continue; fi
+        start_into "$place" "$@"
+        status_is 1
+        says 'standard output: File too large'
+        expect 'bytes written' 2097152 "$(stat -c %s filled)"
+    done
+    start_into "$length" "$@"
+    status_is 0
+    silent
+}
+
+trial_lesson_rows_not_written() { # a write of a lesson's rows that fails is told with status 1: title, heads, rows, memory rows, last byte
+    cp "$lessons/count.lesson" .
+    fails_at '0 1 14 20 93 95 1000 -250 -200 -140 -100 -68 -60 -20 -1' lesson count.lesson
+    # the heads of a second lesson
+    good >b.lesson
+    start lesson count.lesson
+    first=$(($(wc -c <out)))
+    fails_at "$first $((first + 4)) $((first + 12))" lesson count.lesson b.lesson
+}
+
+trial_lesson_filters_not_written() { # a write of a filter that fails is told with status 1, wherever it happens
+    cp "$lessons/count.lesson" .
+    fails_at '0 -1' lesson assemble count.lesson
+    lesson_of 8200 >long
+    fails_at '0 65536 -1' lesson assemble long
+    fails_at '20 200 -100 -1' lesson pieces count.lesson
+    cp "$tape" t
+    fails_at '0 -1' lesson list t
+    cp "$answers" a
+    fails_at '40 90 -1' lesson explain a
+}
+
+trial_lesson_full_disk() { # a full disk as standard output: a message and status 1, of each command, and the lessons after it are not begun
+    good >b.lesson
+    good_tape >t
+    for words in 'b.lesson b.lesson b.lesson' 'pieces b.lesson' 'assemble b.lesson' 'list t' "explain $answers"; do
+        asked="./run lesson $words >/dev/full"
+        # shellcheck disable=SC2086
+        "$run" lesson $words >/dev/full 2>said
+        status=$?
+        status_is 1
+        says 'standard output: No space left on device'
+        expect 'lines of messages' 1 "$(($(wc -l <said)))"
+    done
+}
+
+trial_lesson_closed_pipe() { # nobody reads the output: status 141 and no message, of each command
+    good >b.lesson
+    good_tape >t
+    open_closed_pipe
+    for words in b.lesson 'pieces b.lesson' 'assemble b.lesson' 'list t' "explain $answers"; do
+        asked="./run lesson $words (into a closed pipe)"
+        # shellcheck disable=SC2086
+        "$run" lesson $words >&6 2>said
+        status=$?
+        status_is 141
+        silent
+    done
+}
+
+# page_rows HEAD: the rows of the tables in docs/LESSON.md whose first column is headed so: each text of that column, a tab, the message.
+page_rows() {
+    head=$1 awk '
+        /^\| *[a-z]/ { inside = index($0, "| " ENVIRON["head"]) == 1 }
+        inside && /^\| `/ {
+            at = index($0, " | ")
+            message = substr($0, at + 4)
+            sub(/`.*/, "", message)
+            count = split(substr($0, 3, at - 3), text, "`")
+            for (i = 2; i <= count; i += 2) print text[i] "\t" message
+        }' "$root/docs/LESSON.md"
+}
+
+trial_lesson_page() { # each line in the tables of messages of docs/LESSON.md gets the message that stands there, with its column
+    page_rows line >rows
+    number=0
+    set --
+    tab=$(printf '\t')
+    while IFS=$tab read -r line message; do
+        number=$((number + 1))
+        mkdir $number
+        # a line is given as printf writes it
+        # shellcheck disable=SC2059
+        printf "$line\n" >"$number/x.lesson"
+        set -- "$@" "$number/x.lesson"
+        printf '%s\n' "$number/$message" >>expected
+    done <rows
+    [ "$number" -ge 20 ] || { wrong 'lines in the tables' '20 or more' "$number"; return; }
+    start lesson "$@"
+    asked='./run lesson'
+    status_is 1
+    wrote_nothing
+    number=0
+    while IFS= read -r message; do
+        number=$((number + 1))
+        grep -qxF -e "$message" said || wrong "the line '$(cat $number/x.lesson)'" "$message" "$(grep "^$number/" said | sed 1q)"
+    done <expected
+}
+
+trial_lesson_page_usage() { # wrong usage gets the message that stands in the table of docs/LESSON.md, and the usage
+    page_rows arguments >rows
+    [ "$(($(wc -l <rows)))" -ge 4 ] || { wrong 'rows of the table' '4 or more' "$(cat rows)"; return; }
+    tab=$(printf '\t')
+    while IFS=$tab read -r words message; do
+        eval "start lesson $words"
+        usage
+        grep -qxF -e "$message" said || wrong message "$message" "$(what_it_said)"
+    done <rows
+}
+
+trial_lesson_messages() { # bad lines and bad files are told by file, line and column, and nothing is run
+    : >empty
+    printf '# a comment\n\n' >comments
+    printf 'reset\nwrite 13 10' >cut
+    { echo reset; head -c 10000 /dev/zero | tr '\0' x; printf '\nwriet\n'; } >long
+    { printf '# '; head -c 10000 /dev/zero | tr '\0' x; printf '\nreset\n'; } >comment
+    mkdir folder
+    yes wriet | head -n 25 >many
+    printf 'advance x\n' >pulses
+    printf 'advance 65535\nadvance 65536\nadvance 4294967295\n' >limit
+    start lesson empty comments cut long comment folder many pulses missing.lesson limit
+    status_is 1
+    says_of empty 'there is no record in it; nothing was run'
+    says_of comments 'there is no record in it; nothing was run'
+    says_of cut:2:12: 'expected a line feed at the end of the last line'
+    says_of long:2:1001: 'at most 1000 characters'
+    says_of long:3:1: 'expected reset'
+    says_of 'long: bad lines: 2' 'nothing was run'
+    says_of comment:1:1001: 'at most 1000 characters'
+    says_of folder 'Is a directory'
+    expect 'messages of many bad lines' 10 "$(grep -c '^many:[0-9]*:1: ' said)"
+    says_of 'many: bad lines: 10' 'nothing was run'
+    says_of pulses:1:9: 65535
+    ! grep -q 4294967295 said || wrong message 'the limit that the board has' "$(grep 4294967295 said)"
+    # a pulse too many is a good line that the board refuses, by number
+    expect 'the title' limit "$(head -n 1 out)"
+    expect 'the end' 'records: 3, refused: 2' "$(grep ^records out)"
+    asked='cat a lesson | ./run lesson /dev/stdin'
+    good | { "$run" lesson /dev/stdin >out 2>said; echo $? >ended; }
+    status=$(cat ended)
+    status_is 1
+    wrote_nothing
+    says_of /dev/stdin 'not a file that can be read twice; nothing was run'
+}
+
+trial_lesson_unseen_bytes() { # bytes that cannot be seen are named as what they are, in the right column
+    printf '\357\273\277reset\n' >bom
+    printf 'reset\n  \357\273\277reset\n' >later
+    printf '\377\376r\0e\0s\0e\0t\0\n\0' >utf16
+    printf '\376\377\0r\0e\0s\0e\0t\0\n' >utf16be
+    printf 'read\302\24010\n' >nobreak
+    printf 'reset \302\240\n' >after
+    printf 'write 13 1\342\200\2130\n' >zerowidth
+    printf 'write\302\255 13 10\n' >hyphen
+    printf 'write\343\200\20013 10\n' >wide
+    printf 'read\00110\n' >control
+    printf 'read 1\0000\n' >nul
+    printf 'reset\frread 10\n' >feed
+    printf 'read 10\033\n' >escape
+    printf 'read 10\177\n' >delete
+    printf 'reset\rread 10\n' >cr
+    printf 'reset\r\r\n' >crcr
+    printf 'read 1\320\236\n' >letter
+    start lesson bom later utf16 utf16be nobreak after zerowidth hyphen wide control nul feed escape delete cr crcr letter
+    status_is 1
+    wrote_nothing
+    says_of bom:1:1: 'byte order mark'
+    says_of later:2:3: 'byte order mark'
+    says_of utf16:1:1: UTF-16
+    says_of utf16be:1:1: UTF-16
+    says_of nobreak:1:5: 'no-break space'
+    says_of after:1:7: 'no-break space'
+    says_of zerowidth:1:11: 'not seen'
+    says_of hyphen:1:6: 'soft hyphen'
+    says_of wide:1:6: space
+    says_of control:1:5: 'control character'
+    says_of control:1:5: 01
+    says_of nul:1:7: 'control character'
+    says_of feed:1:6: 'control character'
+    says_of escape:1:8: 'control character'
+    says_of escape:1:8: 1B
+    says_of delete:1:8: 'control character'
+    says_of cr:1:6: 'carriage return'
+    says_of crcr:1:6: 'carriage return'
+    says_of letter:1:7: D0
+    sends_nothing
+}
+
+trial_lesson_lone_cr_in_comment() { # a carriage return alone is named inside a comment too, since what follows it is not run; in any line
+    many_x() { head -c 1500 /dev/zero | tr '\0' x; }
+    printf 'reset # a\rread 10\n' >short
+    printf '# a file whose lines end in CR\rreset\rread 10\r' >mac
+    printf 'reset\n# end\rread 10' >last
+    { printf '# a\r'; many_x; printf '\nreset\n'; } >early
+    for place in short:1:10: mac:1:31: last:2:6: early:1:4:; do
+        start lesson "${place%%:*}"
+        status_is 1
+        wrote_nothing
+        says_of "$place" 'a carriage return that no line feed follows'
+        says 'nothing was run'
+        start lesson assemble <"${place%%:*}"
+        status_is 1
+        wrote_nothing
+        says 'a carriage return that no line feed follows'
+    done
+}
+
+trial_lesson_good_blanks() { # a tab, CR LF, blanks at the end, and in a comment any byte but a lone CR are good
+    printf '\treset\t# \302\240\001\357\273\277\033\nwrite\t13\t10\r\n  read 10  \r\n\r\n# end\r\n' >blanks
+    start lesson assemble blanks
+    status_is 0
+    silent
+    good_tape >t
+    wrote t
+}
+
+trial_lesson_endless() { # what never ends stops after its messages: a text of bad lines, a line without end, random bytes
+    limit=10
+    mkfifo p
+    yes nonsense >p 2>/dev/null &
+    start lesson assemble <p
+    wait $!
+    status_is 1
+    wrote_nothing
+    expect 'bad lines told' 10 "$(grep -c 'standard input:[0-9]*:1: ' said)"
+    says 'there may be more'
+    for device in /dev/zero /dev/urandom; do
+        start lesson assemble <"$device"
+        status_is 1
+        wrote_nothing
+        start lesson assemble "$device"
+        status_is 1
+        wrote_nothing
+        start lesson "$device"
+        status_is 1
+        wrote_nothing
+        [ "$(($(wc -l <said)))" -le 13 ] || wrong 'lines of messages' '13 or fewer' "$(($(wc -l <said)))"
+    done
+    start lesson /dev/zero
+    says_of /dev/zero:1:1001: 'at most 1000 characters'
+    for words in list explain; do
+        asked="./run lesson $words </dev/zero | head -n 1"
+        { timeout "$limit" "$run" lesson "$words" </dev/zero 2>said; echo $? >ended; } | head -n 1 >out
+        status=$(cat ended)
+        status_is 141
+        expect 'lines' 1 "$(($(wc -l <out)))"
+    done
+}
+
+trial_lesson_names_shown() { # control characters in a name are shown, not sent, in titles and in messages; other names are as they are
+    name=$(printf 'a\033[31mb\nc')
+    good >"$name"
+    start lesson "$name"
+    status_is 0
+    expect 'the title' 'a\x1B[31mb\x0Ac' "$(head -n 1 out)"
+    echo wriet >"$name"
+    for words in '' assemble; do
+        # shellcheck disable=SC2086
+        start lesson $words "$name"
+        status_is 1
+        says_of 'a\x1B[31mb\x0Ac:1:1:' 'expected reset'
+        sends_nothing
+    done
+    start lesson "x$name"
+    status_is 1
+    says_of 'xa\x1B[31mb\x0Ac' 'No such file or directory'
+    for name in 'a b.lesson' "it's" 'müde.lesson' ./-x '*.lesson'; do
+        good >"$name"
+        start lesson "$name"
+        status_is 0
+        expect 'the title' "$name" "$(head -n 1 out)"
+    done
+}
+
+# The answer column, as one line.
+answer_column() { cut -c38-72 out | tr -s ' \n' ' '; }
+
+trial_lesson_status_6() { # status 6 in a two-byte count says that the low byte is kept, and what to write next; in a one-byte count it does not
+    printf 'write 13 34\nwrite 10 01\nwrite 10 00\n' >two
+    printf 'write 13 14\nwrite 10 01\n' >one
+    start lesson two
+    status_is 0
+    expect 'the end' 'records: 3, refused: 1' "$(grep ^records out)"
+    column=$(answer_column)
+    for part in '6: a count of 1 is not for mode 2' 'low byte is kept' 'high byte' 'control word again'; do
+        case $column in *"$part"*) ;; *) wrong 'the row' "'$part'" "$column" ;; esac
+    done
+    awk 'length > 80 { exit 1 }' out || wrong 'columns of a row' '80 at the most' "$(awk 'length > 80' out)"
+    start lesson one
+    column=$(answer_column)
+    case $column in *'low byte'*) wrong 'the row of a one-byte count' 'nothing about a low byte' "$column" ;; esac
+    case $column in *'6: a count of 1 is not for mode 2'*) ;; *) wrong 'the row' 'status 6' "$column" ;; esac
+    # and that is what the board does: the high byte alone makes the count good
+    printf 'write 13 34\nwrite 10 01\nwrite 10 00\nwrite 10 01\n' >two
+    start lesson two
+    expect 'the end' 'records: 4, refused: 1' "$(grep ^records out)"
+}
+
+# A lesson in which channel 0, in the given mode, moves two bytes at the addresses 2 and 3.
+transfer() { # MODE BYTE BYTE
+    printf 'write %s\n' '21 00' '22 01' '23 00' '24 02' '25 00' '26 00' "2A $1" '2F 0E'
+    printf 'requests 01\ncycle\ncycle %s\ncycle\ncycle %s\n' "$2" "$3"
+}
+
+trial_lesson_zero_bytes() { # bytes that were moved and are 0 count as moved; 'nothing changed' stands only where no unit went to memory
+    transfer 44 00 00 >zeros
+    transfer 44 00 41 >mixed
+    transfer 48 00 00 >reads
+    start lesson zeros
+    status_is 0
+    ! grep -q 'nothing changed' out || wrong 'the end' 'the memory that was written' "$(tail -n 1 out)"
+    expect 'the last row' '  000000  -- -- 00 00 -- -- -- -- -- -- -- -- -- -- -- --  ................' "$(tail -n 1 out)"
+    start lesson mixed
+    expect 'the last row' '  000000  -- -- 00 41 -- -- -- -- -- -- -- -- -- -- -- --  ...A............' "$(tail -n 1 out)"
+    start lesson reads
+    expect 'cycles that moved a byte from memory' 2 "$(grep -c 'from memory' out)"
+    expect 'the last row' 'memory: nothing changed' "$(tail -n 1 out)"
+}
+
+trial_lesson_tapes() { # an empty tape and a cut one are told, with status 1; the whole records of a cut one are shown
+    good_tape >t
+    good >b.lesson
+    for word in list explain; do
+        start lesson "$word" </dev/null
+        status_is 1
+        says 'is empty'
+    done
+    { cat t; printf '\001\002\003'; } >cut
+    start lesson list cut
+    status_is 1
+    says 'bytes left over: 3'
+    wrote b.lesson
+    start lesson assemble </dev/null
+    status_is 1
+    says 'there is no record in it; nothing was written'
+    wrote_nothing
+    start lesson list <.
+    status_is 1
+    says 'Is a directory'
+    start lesson assemble .
+    status_is 1
+    says 'Is a directory'
+    wrote_nothing
+}
