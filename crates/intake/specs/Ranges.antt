@@ -22,9 +22,9 @@ iw1Good x = eqb x 0 or (bitOf x 4 and bitOf x 1)
 unfoldable pub icuGood : Icu → Bool
 icuGood c = ltb (c .stage) 4 and ltb (c .lowest) 8 and iw1Good (c .iw1)
 
--- A counter: formats 0 (none yet) to 3; modes 0, 2 and none.
+-- A counter: formats 0 (none yet) to 3; modes 0 to 5 and none (255).
 unfoldable pub counterGood : Counter → Bool
-counterGood c = ltb (c .format) 4 and (eqb (c .mode) 0 or eqb (c .mode) 2 or eqb (c .mode) 255)
+counterGood c = ltb (c .format) 4 and (ltb (c .mode) 6 or eqb (c .mode) 255)
 
 unfoldable pub timerGood : Timer → Bool
 timerGood t = counterGood (at t 0) and counterGood (at t 1) and counterGood (at t 2)

@@ -72,10 +72,7 @@ fn is_counter_good(c: Counter) -> bool
     ensures { λ r. ⌜ r ≡ counterGood c ⌝ }
 {
     if c.format < 4 {
-        if c.mode == 0 {
-            return true;
-        }
-        if c.mode == 2 {
+        if c.mode < 6 {
             return true;
         }
         return c.mode == Counter::NONE;

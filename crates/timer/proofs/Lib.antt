@@ -1,3 +1,4 @@
 pub mod Laws
 pub mod Looks
+pub mod Pulses
 pub mod Runs

@@ -9,7 +9,8 @@ use lib.ListN.{getD, set, List·getD-map}
 use lib.Seq.{set-getD, map-set-same}
 use Rattle.bits.specs.Choice.{if_then_else_}
 use Rattle.timer.specs.Fields.{latched-is, second-is}
-use Rattle.timer.specs.Ports.{Answer, refused, read-as, toldShown, moded, held, readOf, seenAs, seenOf}
+use Rattle.timer.specs.Modes.{moded}
+use Rattle.timer.specs.Ports.{Answer, refused, read-as, toldShown, held, readOf, seenAs, seenOf}
 use Rattle.timer.specs.Timer.{at, blank, counter-is, got, gotBy, readsOf}
 use Rattle.timer.specs.declared.Counter.{Counter}
 use Rattle.timer.specs.declared.Timer.{Timer}

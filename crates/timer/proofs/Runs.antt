@@ -1,17 +1,25 @@
 -- n pulses of one counter are the first by the rule, and then those of a counter for which nothing pends.
-use mathlib.Core.Bool.{Bool, true, false}
+use mathlib.Core.Bool.{Bool, true, false, not}
 use mathlib.Core.Path.{_≡_, refl, ap, sym, _∙_}
 use Prim.Native.Nat.{ℕ, zero, suc, _+_, _≤_}
 use native.Mathlib.Nat.{zero-add, add-zero, add-assoc}
 use native.Mathlib.Numerals.{add-one}
 use native.Mathlib.Omega.{arith}
 use lib.Dec.{eqb}
-use Rattle.bits.specs.Choice.{if_then_else_, _or_}
+use Rattle.bits.specs.Choice.{if_then_else_, _and_, _or_}
 use Rattle.bits.specs.Bits.{less}
-use Rattle.timer.specs.Fields.{value-is, out-is}
-use Rattle.timer.specs.Pulse.{counted0, pulse0, reloaded, counted2, pulse2, pulseOf}
+use Rattle.timer.specs.Fields.{value-is, out-is, odd-is}
+use Rattle.timer.specs.Shared.{Mode, counted}
+use Rattle.timer.specs.Mode0.{pulse0}
+use Rattle.timer.specs.Mode1.{pulse1}
+use Rattle.timer.specs.Mode2.{on2, pulse2}
+use Rattle.timer.specs.Mode3.{endOfHalf, on3, pulse3}
+use Rattle.timer.specs.Mode4.{pulse4}
+use Rattle.timer.specs.Mode5.{pulse5}
+use Rattle.timer.specs.Modes.{modeOf}
+use Rattle.timer.specs.Pulse.{pulseOf}
 use Rattle.timer.specs.Run.{riseOf, ranOn, ranOf}
-use Rattle.timer.specs.Steady.{Moving, moved, fall0, fall2, moving, fellOn, fellOf, fallenTo, fellBy, rested, steady0, steady2, steadyOf}
+use Rattle.timer.specs.Steady.{Moving, moved, fall0, fall2, fall3, fall4, moving, fellOn, fellOf, fallenTo, fellBy, rested, steady0, steady1, steady2, steadyOf}
 use Rattle.timer.specs.declared.Counter.{Counter}
 use Rattle.timer.specs.declared.Fall.{Fall}
 use Rattle.timer.specs.declared.Ran.{Ran}
@@ -48,9 +56,9 @@ unfolding ranOf
 rests c zero still = refl
 rests c (suc n) still = rw (← rests c n still, still, no-rise (c .out))
 
--- A counter of which a pulse moves value and OUT alone, by a rule, falls by that rule.
+-- A counter of which a pulse moves value, OUT and `odd` alone, by a rule, falls by that rule.
 abbrev moved-to : Moving → Counter → Counter
-moved-to m c = out-is (m .out) (value-is (m .value) c)
+moved-to m c = odd-is (m .odd) (out-is (m .out) (value-is (m .value) c))
 
 module _ (fall : Moving → Moving) where
   module _ (c : Counter) (by : (m : Moving) → pulseOf (moved-to m c) ≡ moved-to (fall m) c) where
@@ -60,7 +68,7 @@ module _ (fall : Moving → Moving) where
     falls-from m (suc n) = rw (← falls-from m n, by (moving (fellOf fall m n)))
 
     falls : (n : ℕ) → Runs c n (fellBy fall c n)
-    falls n = falls-from (moved (c .value) (c .out)) n
+    falls n = falls-from (moved (c .value) (c .out) (c .odd)) n
 
   -- One pulse more.
   pub on : (m : Moving) (n : ℕ) (f g : Fall) → f ≡ fellOf fall m n → g ≡ fellOn fall f → g ≡ fellOf fall m (n + 1)
@@ -91,20 +99,27 @@ module _ (fall : Moving → Moving) where
           by false false true p q = refl
           by false false false p q = refl
 
-      abbrev counted : Moving → ℕ → Fall
-      counted k r = record { value = k .value; out = k .out; rises = r }
+      abbrev counted-up : Moving → ℕ → Fall
+      counted-up k r = record { value = k .value; out = k .out; odd = k .odd; rises = r }
 
-      pub fell-once : (n : ℕ) (k : Moving) (r : ℕ) → k ≡ moving (fellOf fall m n) → r ≡ riseOf (m .out) (k .out) → counted k r ≡ fellOf fall m n
+      pub fell-once : (n : ℕ) (k : Moving) (r : ℕ) → k ≡ moving (fellOf fall m n) → r ≡ riseOf (m .out) (k .out) → counted-up k r ≡ fellOf fall m n
       fell-once n k r e h =
-          rw (h, e) (ap (counted (moving (fellOf fall m n))) (sym (rises-once n)))
+          rw (h, e) (ap (counted-up (moving (fellOf fall m n))) (sym (rises-once n)))
 
 pub stays0 : (k : Moving) → k .out ≡ true → fall0 k .out ≡ true
 stays0 k e = pick (λ (x : Moving). x .out ≡ true) (eqb (less (k .value)) 0) (λ z. refl) (λ z. e)
 
--- Something pends that the next pulse uses up.
+-- Something stands that the next pulse uses up: a count that a pulse transfers, a trigger, or a strobe that ends though nothing counts.
 abbrev pends : Counter → Bool
 pends c =
-    if c .full then (if eqb (c .mode) 0 then c .pending else if eqb (c .mode) 2 then c .pending or c .trigger else false)
+    if c .full then
+    (if eqb (c .mode) 0 then c .pending
+    else if eqb (c .mode) 1 then c .trigger
+    else if eqb (c .mode) 2 then c .pending or c .trigger
+    else if eqb (c .mode) 3 then c .pending or c .trigger
+    else if eqb (c .mode) 4 then c .pending or not (c .out or c .gate)
+    else if eqb (c .mode) 5 then c .trigger or (not (c .out) and c .pending)
+    else false)
     else false
 
 abbrev Settled : Counter → Type 0
@@ -115,84 +130,206 @@ to-either : (c : Counter) (b : Bool) {x y : Moving} {p q : Counter} → p ≡ mo
 to-either c true d e = d
 to-either c false d e = e
 
--- Mode 0: a pulse settles it, and settled it goes on by `steady0`.
-module _ (c : Counter) (f : c .full ≡ true) (m : eqb (c .mode) 0 ≡ true) where
-  settles0 : Settled (pulse0 c)
-  unfolding pulse0
-  settles0 =
-      pick Settled (c .pending) (λ p. rw (f, m))
-      (λ p.
-      pick Settled (c .half) (λ h. rw (f, m, p))
-      (λ h.
-      pick Settled (c .gate) (λ g. pick Settled (eqb (less (c .value)) 0) (λ z. rw (f, m, p)) (λ z. rw (f, m, p)))
-      (λ g. rw (f, m, p))))
-
-  goes0 : Settled c → (n : ℕ) → Runs c n (steady0 c n)
-  unfolding pulseOf pulse0
-  goes0 s n =
-      let p : c .pending ≡ false = rw (f, m) at s in
-      pick (Runs c n) (c .half) (λ h. rests c n (rw (f, m, p, h)))
-      (λ h.
-      pick (Runs c n) (c .gate)
-      (λ g.
-      falls fall0 c
-      (λ v.
-      let d = moved-to v c in
-      let e : pulseOf d ≡ counted0 (less (v .value)) d = rw (f, m, p, h, g) in
-      e ∙ to-either c (eqb (less (v .value)) 0) refl refl)
-      n)
-      (λ g. rests c n (rw (f, m, p, h, g))))
-
--- Mode 2: the same, by `steady2`.
 or-none : (a b : Bool) → (a or b) ≡ false → (a ≡ false) × (b ≡ false)
 or-none true b e = (e, let z : true ≡ false = e in cc)
 or-none false b e = (refl, e)
 
-module _ (c : Counter) (f : c .full ≡ true) (m : eqb (c .mode) 0 ≡ false) (k : eqb (c .mode) 2 ≡ true) where
-  settles2 : Settled (pulse2 c)
-  unfolding pulse2
-  settles2 =
-      pick Settled (c .pending) (λ p. rw (f, m, k))
-      (λ p.
-      pick Settled (c .trigger) (λ t. rw (f, m, k, p))
-      (λ t.
-      pick Settled (c .gate)
-      (λ g.
-      pick Settled (eqb (c .value) 1) (λ z. rw (f, m, k, p, t))
-      (λ z. pick Settled (eqb (less (c .value)) 1) (λ o. rw (f, m, k, p, t)) (λ o. rw (f, m, k, p, t))))
-      (λ g. rw (f, m, k, p, t))))
+-- In each mode a pulse settles the counter, and settled it goes on by the mode's `steady`.
+module _ (c : Counter) (f : c .full ≡ true) where
+  module _ (m : eqb (c .mode) 0 ≡ true) where
+    settles0 : Settled (pulse0 c)
+    unfolding pulse0
+    settles0 =
+        pick Settled (c .pending) (λ p. rw (f, m))
+        (λ p.
+        pick Settled (c .gate)
+        (λ g.
+        pick Settled (c .half) (λ h. rw (f, m, p))
+        (λ h. pick Settled (eqb (less (c .value)) 0) (λ z. rw (f, m, p)) (λ z. rw (f, m, p))))
+        (λ g. rw (f, m, p)))
 
-  goes2 : Settled c → (n : ℕ) → Runs c n (steady2 c n)
-  unfolding pulseOf pulse2
-  goes2 s n =
-      let q : (c .pending ≡ false) × (c .trigger ≡ false) = or-none (c .pending) (c .trigger) (rw (f, m, k) at s) in
-      pick (Runs c n) (c .gate)
-      (λ g.
-      falls (fall2 (c .count)) c
-      (λ v.
-      let d = moved-to v c in
-      let e : pulseOf d ≡ (if eqb (v .value) 1 then reloaded d else counted2 (less (v .value)) d) = rw (f, m, k, q .0, q .1, g) in
-      e ∙ to-either c (eqb (v .value) 1) refl (to-either c (eqb (less (v .value)) 1) refl refl))
-      n)
-      (λ g. rests c n (rw (f, m, k, q .0, q .1, g)))
+    goes0 : Settled c → (n : ℕ) → Runs c n (steady0 c n)
+    unfolding pulseOf modeOf pulse0
+    goes0 s n =
+        let p : c .pending ≡ false = rw (f, m) at s in
+        pick (Runs c n) (c .gate)
+        (λ g.
+        pick (Runs c n) (c .half) (λ h. rests c n (rw (f, m, p, g, h)))
+        (λ h.
+        falls fall0 c
+        (λ v.
+        let d = moved-to v c in
+        let e : pulseOf d ≡ counted 0 true (less (v .value)) d = rw (f, m, p, g, h) in
+        e ∙ to-either c (eqb (less (v .value)) 0) refl refl)
+        n))
+        (λ g. rests c n (rw (f, m, p, g)))
+
+  module _ (m0 : eqb (c .mode) 0 ≡ false) where
+    module _ (m : eqb (c .mode) 1 ≡ true) where
+      settles1 : Settled (pulse1 c)
+      unfolding pulse1
+      settles1 =
+          pick Settled (c .trigger) (λ t. rw (f, m0, m))
+          (λ t.
+          pick Settled (c .pending) (λ p. rw (f, m0, m, t))
+          (λ p. pick Settled (eqb (less (c .value)) 0) (λ z. rw (f, m0, m, t)) (λ z. rw (f, m0, m, t))))
+
+      goes1 : Settled c → (n : ℕ) → Runs c n (steady1 fall0 c n)
+      unfolding pulseOf modeOf pulse1
+      goes1 s n =
+          let t : c .trigger ≡ false = rw (f, m0, m) at s in
+          pick (Runs c n) (c .pending) (λ p. rests c n (rw (f, m0, m, t, p)))
+          (λ p.
+          falls fall0 c
+          (λ v.
+          let d = moved-to v c in
+          let e : pulseOf d ≡ counted 0 true (less (v .value)) d = rw (f, m0, m, t, p) in
+          e ∙ to-either c (eqb (less (v .value)) 0) refl refl)
+          n)
+
+    module _ (m1 : eqb (c .mode) 1 ≡ false) where
+      module _ (m : eqb (c .mode) 2 ≡ true) where
+        settles2 : Settled (pulse2 c)
+        unfolding pulse2
+        settles2 =
+            pick Settled (c .pending) (λ p. rw (f, m0, m1, m))
+            (λ p.
+            pick Settled (c .trigger) (λ t. rw (f, m0, m1, m, p))
+            (λ t.
+            pick Settled (c .gate)
+            (λ g.
+            pick Settled (eqb (c .value) 1) (λ z. rw (f, m0, m1, m, p, t))
+            (λ z. pick Settled (eqb (less (c .value)) 1) (λ o. rw (f, m0, m1, m, p, t)) (λ o. rw (f, m0, m1, m, p, t))))
+            (λ g. rw (f, m0, m1, m, p, t))))
+
+        goes2 : Settled c → (n : ℕ) → Runs c n (steady2 (fall2 (c .count)) c n)
+        unfolding pulseOf modeOf pulse2
+        goes2 s n =
+            let q : (c .pending ≡ false) × (c .trigger ≡ false) = or-none (c .pending) (c .trigger) (rw (f, m0, m1, m) at s) in
+            pick (Runs c n) (c .gate)
+            (λ g.
+            falls (fall2 (c .count)) c
+            (λ v.
+            let d = moved-to v c in
+            let e : pulseOf d ≡ on2 d = rw (f, m0, m1, m, q .0, q .1, g) in
+            e ∙ to-either c (eqb (v .value) 1) refl (to-either c (eqb (less (v .value)) 1) refl refl))
+            n)
+            (λ g. rests c n (rw (f, m0, m1, m, q .0, q .1, g)))
+
+      module _ (m2 : eqb (c .mode) 2 ≡ false) where
+        module _ (m : eqb (c .mode) 3 ≡ true) where
+          settles3 : Settled (pulse3 c)
+          unfolding pulse3
+          settles3 =
+              pick Settled (c .pending) (λ p. rw (f, m0, m1, m2, m))
+              (λ p.
+              pick Settled (c .trigger) (λ t. rw (f, m0, m1, m2, m, p))
+              (λ t.
+              pick Settled (c .gate)
+              (λ g.
+              pick Settled (eqb (c .value) (endOfHalf (c .out) (c .odd))) (λ z. rw (f, m0, m1, m2, m, p, t)) (λ z. rw (f, m0, m1, m2, m, p, t)))
+              (λ g. rw (f, m0, m1, m2, m, p, t))))
+
+          goes3 : Settled c → (n : ℕ) → Runs c n (steady2 (fall3 (c .count)) c n)
+          unfolding pulseOf modeOf pulse3
+          goes3 s n =
+              let q : (c .pending ≡ false) × (c .trigger ≡ false) = or-none (c .pending) (c .trigger) (rw (f, m0, m1, m2, m) at s) in
+              pick (Runs c n) (c .gate)
+              (λ g.
+              falls (fall3 (c .count)) c
+              (λ v.
+              let d = moved-to v c in
+              let e : pulseOf d ≡ on3 d = rw (f, m0, m1, m2, m, q .0, q .1, g) in
+              e ∙ to-either c (eqb (v .value) (endOfHalf (v .out) (v .odd))) refl refl)
+              n)
+              (λ g. rests c n (rw (f, m0, m1, m2, m, q .0, q .1, g)))
+
+        module _ (m3 : eqb (c .mode) 3 ≡ false) where
+          module _ (m : eqb (c .mode) 4 ≡ true) where
+            settles4 : Settled (pulse4 c)
+            unfolding pulse4
+            settles4 =
+                pick Settled (c .pending) (λ p. rw (f, m0, m1, m2, m3, m))
+                (λ p.
+                pick Settled (c .gate)
+                (λ g. pick Settled (eqb (less (c .value)) 0) (λ z. rw (f, m0, m1, m2, m3, m, p, g)) (λ z. rw (f, m0, m1, m2, m3, m, p)))
+                (λ g. rw (f, m0, m1, m2, m3, m, p)))
+
+            goes4 : Settled c → (n : ℕ) → Runs c n (steady2 fall4 c n)
+            unfolding pulseOf modeOf pulse4
+            goes4 s n =
+                let q : (c .pending ≡ false) × (not (c .out or c .gate) ≡ false) = or-none (c .pending) (not (c .out or c .gate)) (rw (f, m0, m1, m2, m3, m) at s) in
+                pick (Runs c n) (c .gate)
+                (λ g.
+                falls fall4 c
+                (λ v.
+                let d = moved-to v c in
+                let e : pulseOf d ≡ counted 0 false (less (v .value)) (out-is true d) = rw (f, m0, m1, m2, m3, m, q .0, g) in
+                e ∙ to-either c (eqb (less (v .value)) 0) refl refl)
+                n)
+                (λ g. let o = ends (c .out) (c .gate) (q .1) g in rests c n (rw (f, m0, m1, m2, m3, m, q .0, g, o)))
+              where
+                ends : (o g : Bool) → not (o or g) ≡ false → g ≡ false → o ≡ true
+                ends true g h e = refl
+                ends false true h e = let z : true ≡ false = e in cc
+                ends false false h e = let z : true ≡ false = h in cc
+
+          module _ (m4 : eqb (c .mode) 4 ≡ false) where
+            module _ (m : eqb (c .mode) 5 ≡ true) where
+              settles5 : Settled (pulse5 c)
+              unfolding pulse5
+              settles5 =
+                  pick Settled (c .trigger) (λ t. rw (f, m0, m1, m2, m3, m4, m))
+                  (λ t.
+                  pick Settled (c .pending) (λ p. rw (f, m0, m1, m2, m3, m4, m, t))
+                  (λ p. pick Settled (eqb (less (c .value)) 0) (λ z. rw (f, m0, m1, m2, m3, m4, m, t, p)) (λ z. rw (f, m0, m1, m2, m3, m4, m, t))))
+
+              goes5 : Settled c → (n : ℕ) → Runs c n (steady1 fall4 c n)
+              unfolding pulseOf modeOf pulse5
+              goes5 s n =
+                  let q : (c .trigger ≡ false) × ((not (c .out) and c .pending) ≡ false) = or-none (c .trigger) (not (c .out) and c .pending) (rw (f, m0, m1, m2, m3, m4, m) at s) in
+                  pick (Runs c n) (c .pending)
+                  (λ p. let o = ends (c .out) (c .pending) (q .1) p in rests c n (rw (f, m0, m1, m2, m3, m4, m, q .0, p, o)))
+                  (λ p.
+                  falls fall4 c
+                  (λ v.
+                  let d = moved-to v c in
+                  let e : pulseOf d ≡ counted 0 false (less (v .value)) (out-is true d) = rw (f, m0, m1, m2, m3, m4, m, q .0, p) in
+                  e ∙ to-either c (eqb (less (v .value)) 0) refl refl)
+                  n)
+                where
+                  ends : (o p : Bool) → (not o and p) ≡ false → p ≡ true → o ≡ true
+                  ends true p h e = refl
+                  ends false true h e = let z : true ≡ false = h in cc
+                  ends false false h e = let z : false ≡ true = e in cc
 
 -- Every counter.
 settles : (c : Counter) → Settled (pulseOf c)
-unfolding pulseOf
+unfolding pulseOf modeOf
 settles c =
+    let P : Mode → Type 0 = λ k. Settled (k .pulse c) in
     pick Settled (c .full)
     (λ f.
-    pick Settled (eqb (c .mode) 0) (settles0 c f)
-    (λ m. pick Settled (eqb (c .mode) 2) (settles2 c f m) (λ k. rw (f, m, k))))
+    pick P (eqb (c .mode) 0) (settles0 c f)
+    (λ m0. pick P (eqb (c .mode) 1) (settles1 c f m0)
+    (λ m1. pick P (eqb (c .mode) 2) (settles2 c f m0 m1)
+    (λ m2. pick P (eqb (c .mode) 3) (settles3 c f m0 m1 m2)
+    (λ m3. pick P (eqb (c .mode) 4) (settles4 c f m0 m1 m2 m3)
+    (λ m4. pick P (eqb (c .mode) 5) (settles5 c f m0 m1 m2 m3 m4) (λ m5. rw (f, m0, m1, m2, m3, m4, m5))))))))
     (λ f. rw f)
 
 goes : (c : Counter) → Settled c → (n : ℕ) → Runs c n (steadyOf c n)
-unfolding steadyOf pulseOf
+unfolding steadyOf pulseOf modeOf
 goes c s n =
     pick (Runs c n) (c .full)
     (λ f.
     pick (Runs c n) (eqb (c .mode) 0) (λ m. goes0 c f m s n)
-    (λ m. pick (Runs c n) (eqb (c .mode) 2) (λ k. goes2 c f m k s n) (λ k. rests c n (rw (f, m, k)))))
+    (λ m0. pick (Runs c n) (eqb (c .mode) 1) (λ m. goes1 c f m0 m s n)
+    (λ m1. pick (Runs c n) (eqb (c .mode) 2) (λ m. goes2 c f m0 m1 m s n)
+    (λ m2. pick (Runs c n) (eqb (c .mode) 3) (λ m. goes3 c f m0 m1 m2 m s n)
+    (λ m3. pick (Runs c n) (eqb (c .mode) 4) (λ m. goes4 c f m0 m1 m2 m3 m s n)
+    (λ m4. pick (Runs c n) (eqb (c .mode) 5) (λ m. goes5 c f m0 m1 m2 m3 m4 m s n)
+    (λ m5. rests c n (rw (f, m0, m1, m2, m3, m4, m5)))))))))
     (λ f. rests c n (rw f))
 
 -- Each pulse makes OUT rise once at most.

@@ -1,4 +1,12 @@
 pub mod Fields
+pub mod Shared
+pub mod Mode0
+pub mod Mode1
+pub mod Mode2
+pub mod Mode3
+pub mod Mode4
+pub mod Mode5
+pub mod Modes
 pub mod Ports
 pub mod Pulse
 pub mod Run

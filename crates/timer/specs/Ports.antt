@@ -1,9 +1,10 @@
 -- One counter at its ports: reset, control word, mode word, count bytes, latch, reads.
 use Prim.Native.Nat.{ℕ, _+_, _*_, _%_, _/_}
-use mathlib.Core.Bool.{Bool, true, false}
-use lib.Dec.{eqb}
-use Rattle.bits.specs.Choice.{if_then_else_, _and_, _or_}
+use mathlib.Core.Bool.{true, false, not}
+use lib.Dec.{eqb, ltb}
+use Rattle.bits.specs.Choice.{if_then_else_, _or_}
 use Rattle.timer.specs.Fields.{mode-is, format-is, count-is, full-is, pending-is, trigger-is, half-is, low-is, latched-is, latch-is, second-is, out-is}
+use Rattle.timer.specs.Modes.{modeOf, moded}
 use Rattle.timer.specs.declared.Counter.{Counter}
 use Rattle.timer.specs.declared.Wrote.{Wrote}
 use Rattle.timer.specs.declared.Wrote.the-variants.{Taken, Unset, Unbuilt, One}
@@ -29,6 +30,7 @@ resetOf =
       second = false;
       gate = true;
       out = false;
+      odd = false;
     }
 
 -- What a counter answers at a port: the status, the byte read (zero where none is), the counter afterwards.
@@ -44,7 +46,7 @@ done c = record { status = 0; byte = 0; counter = c }
 abbrev pub refused : ℕ → Counter → Answer
 refused s c = record { status = s; byte = 0; counter = c }
 
--- The status and the values of each answer that the program gives: out of turn is 3, not built 4, count 1 in mode 2 is 6.
+-- The status and the values of each answer that the program gives: out of turn is 3, not built 4, a count below the minimum 6.
 unfoldable pub toldWrote : Counter → Wrote → Answer
 toldWrote c (Taken d) = done d
 toldWrote c Unset = refused 3 c
@@ -68,26 +70,22 @@ CM w = w / 2 % 8
 abbrev pub BCD : ℕ → ℕ
 BCD w = w % 2
 
--- A counter has a mode if it is 0 or 2, the two that are built. Any other number is none, as 255 after reset.
-unfoldable pub moded : Counter → Bool
-moded c = eqb (c .mode) 0 or eqb (c .mode) 2
+-- D3-D1 name the mode; in x10, mode 2, and x11, mode 3, D3 does not count.
+abbrev pub modeIn : ℕ → ℕ
+modeIn m = if ltb (m % 4) 2 then m else m % 4
 
--- A mode word sets mode m and format f, and OUT: low in mode 0, high in mode 2. It drops the latch, a pending transfer, a
--- trigger and both half-done bytes, and no count is complete any more. The counter's value stays.
+-- A mode word sets mode m and format f, and OUT to the mode's initial level. It drops the latch, a pending transfer, a trigger, a half-written
+-- count and the place between two reads, and no count is complete any more. The counter's value stays.
 unfoldable pub modeSet : ℕ → ℕ → Counter → Counter
 modeSet m f c =
     mode-is m
     (format-is f
-    (out-is (eqb m 2)
+    (out-is (modeOf m .high)
     (full-is false (pending-is false (trigger-is false (half-is false (second-is false (latched-is false c))))))))
 
--- BCD and every mode but 000 and x10 are not built.
+-- BCD is not built.
 unfoldable pub modeWord : Counter → ℕ → Answer
-modeWord c w =
-    if eqb (BCD w) 1 then refused 4 c
-    else if eqb (CM w) 0 then done (modeSet 0 (RWM w) c)
-    else if eqb (CM w % 4) 2 then done (modeSet 2 (RWM w) c)
-    else refused 4 c
+modeWord c w = if eqb (BCD w) 1 then refused 4 c else done (modeSet (modeIn (CM w)) (RWM w) c)
 
 -- A latch holds the counter's value as it is now. While one holds, another does nothing. With no mode it is out of turn.
 unfoldable pub latchWord : Counter → Answer
@@ -99,22 +97,28 @@ latchWord c =
 unfoldable pub controlOf : Counter → ℕ → Answer
 controlOf c w = if eqb (RWM w) 0 then latchWord c else modeWord c w
 
--- A complete count n stands as the last one, and no byte of it is kept apart any more. In mode 0 each one is to be
--- transferred, and sets OUT low. In mode 2 the first one is to be transferred, or the one that replaces it before that pulse; a later
--- one waits for the next reload.
+-- A count byte written sets OUT low where the mode has it so.
+abbrev pub dropped : Counter → Counter
+dropped c = if modeOf (c .mode) .drops then out-is false c else c
+
+-- A complete count n stands as the last one, and no byte of it is kept apart any more. It pends if it is the first since the mode word, and in modes 0 and 4 always.
+-- Any other waits for the next load. (Mode 0 alone drops OUT, and there each count pends.)
 unfoldable pub completed : Counter → ℕ → Counter
 completed c n =
-    if eqb (c .mode) 0 then out-is false (pending-is true (full-is true (half-is false (count-is n c))))
-    else if c .full then half-is false (count-is n c)
-    else pending-is true (full-is true (half-is false (count-is n c)))
+    if modeOf (c .mode) .each or not (c .full) then dropped (pending-is true (full-is true (half-is false (count-is n c))))
+    else half-is false (count-is n c)
 
--- A complete count of 1 is refused in mode 2; the byte kept apart stays.
+-- How much a written count counts: 0 is 65,536.
+abbrev pub sizeOf : ℕ → ℕ
+sizeOf n = if eqb n 0 then 65536 else n
+
+-- A complete count below the mode's minimum is refused; the byte kept apart stays.
 unfoldable pub countOf : Counter → ℕ → Answer
-countOf c n = if eqb (c .mode) 2 and eqb n 1 then refused 6 c else done (completed c n)
+countOf c n = if ltb (sizeOf n) (modeOf (c .mode) .least) then refused 6 c else done (completed c n)
 
--- The first byte of two is kept apart, and the last complete count stands. In mode 0 it sets OUT low.
+-- The first byte of two is kept apart, and the last complete count stands.
 unfoldable pub begun : Counter → ℕ → Counter
-begun c x = if eqb (c .mode) 0 then out-is false (low-is x (half-is true c)) else low-is x (half-is true c)
+begun c x = dropped (low-is x (half-is true c))
 
 -- A count byte. With no mode it is out of turn. Format 1 writes the low byte and 2 the high byte, and the other byte is zero.
 -- Any other format, which is 3 once a mode is set, writes both, the low one first.

@@ -6,7 +6,7 @@ use Rattle.timer.specs.Pulse.{pulseOf}
 use Rattle.timer.specs.declared.Counter.{Counter}
 use Rattle.timer.specs.declared.Ran.{Ran}
 
--- A pulse counts for a counter whose OUT it makes rise.
+-- 1 where OUT rose, else 0.
 abbrev pub riseOf : Bool → Bool → ℕ
 riseOf was now = if was then 0 else if now then 1 else 0
 

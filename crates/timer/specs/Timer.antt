@@ -31,6 +31,7 @@ blank =
       second = false;
       gate = false;
       out = false;
+      odd = false;
     }
 
 -- Counter n.
@@ -43,11 +44,11 @@ three a b c = record { counters = a ∷ b ∷ c ∷ [] }
 abbrev pub counter-is : ℕ → Counter → Timer → Timer
 counter-is n c t = record { counters = set (t .counters) n c }
 
--- Reset: each counter at its own.
+-- Reset: three counters, each as after reset.
 unfoldable pub resetsOf : Timer
 resetsOf = three resetOf resetOf resetOf
 
--- The answer of a port: the status, the byte read (zero where none is), the timer afterwards.
+-- The answer of a port: the status, the byte of a read (zero where none is), the timer afterwards.
 abbrev pub written : ℕ → Timer → Written
 written s t = record { status = s; timer = t }
 

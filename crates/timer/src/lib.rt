@@ -1,15 +1,24 @@
-// The 71054: three counters on one clock. Modes 0 and 2, binary; the multiple latch, BCD and the other modes are not built.
+// The 71054: three counters on one clock, in six modes, binary; the multiple latch and BCD are not built.
 ghost use mathlib.Core.Path.{_≡_};
 ghost use Prim.Native.Nat.{_≤_, _<_};
-ghost use Rattle.timer.specs.Ports.{resetOf, toldWrote, toldShown, moded, modeSet, modeWord, latchWord, controlOf, completed, countOf, begun, writeOf, held, readOf, seenOf};
-ghost use Rattle.timer.specs.Pulse.{transferred, pulse0, pulse2, pulseOf, gateOf};
+ghost use lib.Dec.{ltb};
+ghost use Rattle.timer.specs.Shared.{transferred};
+ghost use Rattle.timer.specs.Mode0.{pulse0};
+ghost use Rattle.timer.specs.Mode1.{pulse1};
+ghost use Rattle.timer.specs.Mode2.{pulse2};
+ghost use Rattle.timer.specs.Mode3.{loadedEven, endOfHalf, pulse3};
+ghost use Rattle.timer.specs.Mode4.{pulse4};
+ghost use Rattle.timer.specs.Mode5.{pulse5};
+ghost use Rattle.timer.specs.Modes.{modeOf, moded};
+ghost use Rattle.timer.specs.Ports.{resetOf, toldWrote, toldShown, modeSet, modeWord, latchWord, controlOf, dropped, completed, sizeOf, countOf, begun, writeOf, held, readOf, seenOf};
+ghost use Rattle.timer.specs.Pulse.{pulseOf, gateOf};
 ghost use Rattle.timer.specs.Run.{riseOf, ranOf};
-ghost use Rattle.timer.specs.Steady.{moved, fall0, fall2, fellOf, fallenTo, rested, steadyOf};
-ghost use Rattle.timer.specs.Timer.{at, resetsOf, wroteBy, gotBy, controlsOf, writesOf, readsOf, pulsesOf, gatesOf, outsOf};
+ghost use Rattle.timer.specs.Steady.{moved, fall0, fall2, fall3, fall4, fellOf, fallenTo, rested, steadyOf};
+ghost use Rattle.timer.specs.Timer.{at, resetsOf, wroteBy, controlsOf, writesOf, readsOf, pulsesOf, gatesOf, outsOf};
 
 #[repr(C)]
 pub struct Counter {
-    // 0 and 2 are themselves, any other number is no mode
+    // 0 to 5, any other number is no mode
     pub mode: u8,
     // RWM1-RWM0: 1 low byte, 2 high byte, 3 both
     pub format: u8,
@@ -19,9 +28,9 @@ pub struct Counter {
     pub count: u16,
     // a count is complete since the mode word
     pub full: bool,
-    // a complete count waits for the pulse that transfers it
+    // a complete count waits for the pulse that transfers it; in modes 1 and 5 that is the first trigger's
     pub pending: bool,
-    // GATE rose, and the next pulse of mode 2 reloads
+    // GATE rose, and the next pulse of mode 1, 2, 3 or 5 loads
     pub trigger: bool,
     // the low byte of a count is kept apart in `low`, its high byte to come
     pub half: bool,
@@ -33,6 +42,8 @@ pub struct Counter {
     pub second: bool,
     pub gate: bool,
     pub out: bool,
+    // the running count of mode 3 was odd
+    pub odd: bool,
 }
 
 // What a counter answers to a control word or a count byte.
@@ -40,9 +51,9 @@ pub enum Wrote {
     Taken(Counter),
     // no mode is set
     Unset,
-    // a mode that is not built, or BCD
+    // BCD
     Unbuilt,
-    // count 1 in mode 2
+    // count 1 in mode 2 or 3
     One,
 }
 
@@ -66,10 +77,11 @@ pub struct Ran {
     pub rises: u32,
 }
 
-// The same of the value and OUT alone, where nothing else moves.
+// The same of the three fields that move once nothing pends.
 pub struct Fall {
     pub value: u16,
     pub out: bool,
+    pub odd: bool,
     pub rises: u32,
 }
 
@@ -105,9 +117,9 @@ fn rise(was: bool, now: bool) -> u32
     0
 }
 
-// n pulses of mode 0. OUT never falls on the way, so it rose once if it ends high and was low.
-fn fall_0(value: u16, out: bool, n: u32) -> Fall
-    ensures { λ r. ⌜ r ≡ fellOf fall0 (moved value out) n ⌝ }
+// n pulses of modes 0 and 1. OUT never falls on the way, so it rose once if it ends high and was low.
+fn fall_0(value: u16, out: bool, odd: bool, n: u32) -> Fall
+    ensures { λ r. ⌜ r ≡ fellOf fall0 (moved value out odd) n ⌝ }
 {
     let mut v = value;
     let mut high = out;
@@ -122,13 +134,14 @@ fn fall_0(value: u16, out: bool, n: u32) -> Fall
     Fall {
         value: v,
         out: high,
+        odd: odd,
         rises: rise(out, high),
     }
 }
 
 // n pulses of mode 2.
-fn fall_2(count: u16, value: u16, out: bool, n: u32) -> Fall
-    ensures { λ r. ⌜ r ≡ fellOf (fall2 count) (moved value out) n ⌝ }
+fn fall_2(count: u16, value: u16, out: bool, odd: bool, n: u32) -> Fall
+    ensures { λ r. ⌜ r ≡ fellOf (fall2 count) (moved value out odd) n ⌝ }
 {
     let mut v = value;
     let mut high = out;
@@ -150,8 +163,178 @@ fn fall_2(count: u16, value: u16, out: bool, n: u32) -> Fall
     Fall {
         value: v,
         out: high,
+        odd: odd,
         rises: rises,
     }
+}
+
+// n pulses of mode 3.
+fn fall_3(count: u16, value: u16, out: bool, odd: bool, n: u32) -> Fall
+    ensures { λ r. ⌜ r ≡ fellOf (fall3 count) (moved value out odd) n ⌝ }
+{
+    let mut v = value;
+    let mut high = out;
+    let mut long = odd;
+    let mut rises = 0;
+    let mut i = 0;
+    while i < n {
+        i += 1;
+        if v == end_of_half(high, long) {
+            rises += rise(high, !high);
+            v = count - count % 2;
+            high = !high;
+            long = count % 2 == 1;
+            continue;
+        }
+        v = bits::one_less(bits::one_less(v));
+    }
+    Fall {
+        value: v,
+        out: high,
+        odd: long,
+        rises: rises,
+    }
+}
+
+// n pulses of modes 4 and 5.
+fn fall_4(value: u16, out: bool, odd: bool, n: u32) -> Fall
+    ensures { λ r. ⌜ r ≡ fellOf fall4 (moved value out odd) n ⌝ }
+{
+    let mut v = value;
+    let mut high = out;
+    let mut rises = 0;
+    let mut i = 0;
+    while i < n {
+        i += 1;
+        v = bits::one_less(v);
+        if v == 0 {
+            high = false;
+            continue;
+        }
+        rises += rise(high, true);
+        high = true;
+    }
+    Fall {
+        value: v,
+        out: high,
+        odd: odd,
+        rises: rises,
+    }
+}
+
+// Where a half of mode 3 ends: the high half of an odd count is the longer one.
+fn end_of_half(high: bool, odd: bool) -> u16
+    ensures { λ r. ⌜ r ≡ endOfHalf high odd ⌝ }
+{
+    if high {
+        if odd {
+            return 0;
+        }
+        return 2;
+    }
+    2
+}
+
+// What a mode's table says besides its pulse: whether OUT starts high.
+fn starts_high(mode: u8) -> bool
+    ensures { λ r. ⌜ r ≡ modeOf mode .high ⌝ }
+{
+    match mode {
+        0 => false,
+        1 => true,
+        2 => true,
+        3 => true,
+        4 => true,
+        5 => true,
+        _ => false,
+    }
+}
+
+// Whether GATE's rise is a trigger.
+fn has_trigger(mode: u8) -> bool
+    ensures { λ r. ⌜ r ≡ modeOf mode .triggers ⌝ }
+{
+    match mode {
+        0 => false,
+        1 => true,
+        2 => true,
+        3 => true,
+        4 => false,
+        5 => true,
+        _ => false,
+    }
+}
+
+// Whether GATE's fall sets OUT high.
+fn lifts_out(mode: u8) -> bool
+    ensures { λ r. ⌜ r ≡ modeOf mode .lifts ⌝ }
+{
+    match mode {
+        0 => false,
+        1 => false,
+        2 => true,
+        3 => true,
+        4 => false,
+        5 => false,
+        _ => false,
+    }
+}
+
+// Whether a count byte sets OUT low.
+fn drops_out(mode: u8) -> bool
+    ensures { λ r. ⌜ r ≡ modeOf mode .drops ⌝ }
+{
+    match mode {
+        0 => true,
+        1 => false,
+        2 => false,
+        3 => false,
+        4 => false,
+        5 => false,
+        _ => false,
+    }
+}
+
+// Whether each complete count is to be transferred, and not the first alone.
+fn takes_each(mode: u8) -> bool
+    ensures { λ r. ⌜ r ≡ modeOf mode .each ⌝ }
+{
+    match mode {
+        0 => true,
+        1 => false,
+        2 => false,
+        3 => false,
+        4 => true,
+        5 => false, // a trigger alone starts it
+        _ => false,
+    }
+}
+
+// The minimum count.
+fn least(mode: u8) -> u16
+    ensures { λ r. ⌜ r ≡ modeOf mode .least ⌝ }
+    ensures { λ r. ⌜ r ≤ 2 ⌝ }
+{
+    match mode {
+        0 => 1,
+        1 => 1,
+        2 => 2,
+        3 => 2,
+        4 => 1,
+        5 => 1,
+        _ => 1,
+    }
+}
+
+// Whether a count is below the minimum; 0 counts 65,536.
+fn is_too_small(mode: u8, n: u16) -> bool
+    ensures { λ r. ⌜ r ≡ ltb (sizeOf n) (modeOf mode .least) ⌝ }
+{
+    let least = least(mode);
+    if n == 0 {
+        return false;
+    }
+    n < least
 }
 
 impl Counter {
@@ -184,6 +367,7 @@ impl Counter {
             second: false,
             gate: true,
             out: false,
+            odd: false,
         }
     }
 
@@ -191,10 +375,7 @@ impl Counter {
     fn is_moded(self) -> bool
         ensures { λ r. ⌜ r ≡ moded self ⌝ }
     {
-        if self.mode == 0 {
-            return true;
-        }
-        self.mode == 2
+        self.mode < 6
     }
 
     // The value stays: it is what reads show until the first transfer.
@@ -203,7 +384,7 @@ impl Counter {
     {
         self.mode = mode;
         self.format = format;
-        self.out = mode == 2;
+        self.out = starts_high(mode);
         self.full = false;
         self.pending = false;
         self.trigger = false;
@@ -213,7 +394,7 @@ impl Counter {
         self
     }
 
-    // A mode word: BCD first, then the two modes that are built; 110 is mode 2 too.
+    // A mode word. In x10 and x11 D3 does not count: 110 is mode 2 too, 111 mode 3.
     fn take_mode(self, word: u8) -> Wrote
         ensures { λ r. ⌜ toldWrote self r ≡ modeWord self word ⌝ }
     {
@@ -222,13 +403,10 @@ impl Counter {
         if word % 2 == 1 {
             return Wrote::Unbuilt;
         }
-        if mode == 0 {
-            return Wrote::Taken(self.set_mode(0, format));
+        if mode % 4 < 2 {
+            return Wrote::Taken(self.set_mode(mode, format));
         }
-        if mode % 4 == 2 {
-            return Wrote::Taken(self.set_mode(2, format));
-        }
-        Wrote::Unbuilt
+        Wrote::Taken(self.set_mode(mode % 4, format))
     }
 
     // A latch that holds already is left as it is.
@@ -256,35 +434,41 @@ impl Counter {
         self.take_mode(word)
     }
 
+    // What a count byte does to OUT at once.
+    fn drop_out(mut self) -> Counter
+        ensures { λ r. ⌜ r ≡ dropped self ⌝ }
+    {
+        if drops_out(self.mode) {
+            self.out = false;
+        }
+        self
+    }
+
     // A complete count: the down counter gets it at a pulse, never here.
     fn complete(mut self, n: u16) -> Counter
         ensures { λ r. ⌜ r ≡ completed self n ⌝ }
     {
         self.count = n;
         self.half = false;
-        if self.mode == 0 {
+        if takes_each(self.mode) {
             self.full = true;
             self.pending = true;
-            self.out = false;
-            return self;
+            return self.drop_out();
         }
         if self.full {
             return self;
         }
         self.full = true;
         self.pending = true;
-        self
+        self.drop_out()
     }
 
-    // A refused 1 leaves the byte kept apart, so the high byte may be written again.
+    // A refused count leaves the byte kept apart, so the high byte may be written again.
     fn take_count(self, n: u16) -> Wrote
         ensures { λ r. ⌜ toldWrote self r ≡ countOf self n ⌝ }
     {
-        if self.mode == 2 {
-            if n == 1 {
-                return Wrote::One;
-            }
-            return Wrote::Taken(self.complete(n));
+        if is_too_small(self.mode, n) {
+            return Wrote::One;
         }
         Wrote::Taken(self.complete(n))
     }
@@ -295,11 +479,7 @@ impl Counter {
     {
         self.half = true;
         self.low = x;
-        if self.mode == 0 {
-            self.out = false;
-            return self;
-        }
-        self
+        self.drop_out()
     }
 
     // A count byte.
@@ -401,6 +581,22 @@ impl Counter {
         self
     }
 
+    // Where the half of mode 3 ends that runs.
+    fn half_end(self) -> u16
+        ensures { λ r. ⌜ r ≡ endOfHalf (self .out) (self .odd) ⌝ }
+    {
+        end_of_half(self.out, self.odd)
+    }
+
+    // The load of mode 3: the even number below an odd one, and that it was odd.
+    fn load_even(mut self) -> Counter
+        ensures { λ r. ⌜ r ≡ loadedEven self ⌝ }
+    {
+        self.odd = self.count % 2 == 1;
+        self.value = self.count - self.count % 2;
+        self
+    }
+
     // A pulse in mode 0.
     fn pulse_0(mut self) -> Counter
         ensures { λ r. ⌜ r ≡ pulse0 self ⌝ }
@@ -408,16 +604,38 @@ impl Counter {
         if self.pending {
             return self.transfer();
         }
-        if self.half {
-            return self;
-        }
         if self.gate {
+            if self.half {
+                return self;
+            }
             let v = bits::one_less(self.value);
             self.value = v;
             if v == 0 {
                 self.out = true;
             }
             return self;
+        }
+        self
+    }
+
+    // A pulse in mode 1.
+    fn pulse_1(mut self) -> Counter
+        ensures { λ r. ⌜ r ≡ pulse1 self ⌝ }
+    {
+        let fires = self.trigger;
+        if fires {
+            let mut started = self.transfer();
+            started.trigger = false;
+            started.out = false;
+            return started;
+        }
+        if self.pending {
+            return self;
+        }
+        let v = bits::one_less(self.value);
+        self.value = v;
+        if v == 0 {
+            self.out = true;
         }
         self
     }
@@ -453,18 +671,104 @@ impl Counter {
         self
     }
 
+    // A pulse in mode 3.
+    fn pulse_3(mut self) -> Counter
+        ensures { λ r. ⌜ r ≡ pulse3 self ⌝ }
+    {
+        if self.pending {
+            let mut loaded = self.load_even();
+            loaded.pending = false;
+            loaded.trigger = false;
+            return loaded;
+        }
+        if self.trigger {
+            let mut again = self.load_even();
+            again.trigger = false;
+            again.out = true;
+            return again;
+        }
+        if self.gate {
+            if self.value == self.half_end() {
+                let mut turned = self.load_even();
+                turned.out = !self.out;
+                return turned;
+            }
+            self.value = bits::one_less(bits::one_less(self.value));
+            return self;
+        }
+        self
+    }
+
+    // A pulse in mode 4. The strobe ends first, whatever the pulse does then.
+    fn pulse_4(mut self) -> Counter
+        ensures { λ r. ⌜ r ≡ pulse4 self ⌝ }
+    {
+        self.out = true; // a strobe lasts one pulse
+        if self.pending {
+            return self.transfer();
+        }
+        if self.gate {
+            let left = bits::one_less(self.value);
+            self.value = left;
+            if left == 0 {
+                self.out = false;
+            }
+            return self;
+        }
+        self
+    }
+
+    // A pulse in mode 5, where the strobe ends likewise.
+    fn pulse_5(mut self) -> Counter
+        ensures { λ r. ⌜ r ≡ pulse5 self ⌝ }
+    {
+        self.out = true;
+        let starts = self.trigger;
+        if starts {
+            let mut started = self.transfer();
+            started.trigger = false;
+            return started;
+        }
+        if self.pending {
+            return self;
+        }
+        let v = bits::one_less(self.value);
+        self.value = v;
+        if v == 0 {
+            self.out = false;
+        }
+        self
+    }
+
     // One pulse of CLK.
     pub fn pulse(self) -> Counter
         ensures { λ r. ⌜ r ≡ pulseOf self ⌝ }
     {
         if self.full {
-            if self.mode == 0 {
-                return self.pulse_0();
+            let mode = self.mode;
+            match mode {
+                0 => {
+                    return self.pulse_0();
+                }
+                1 => {
+                    return self.pulse_1();
+                }
+                2 => {
+                    return self.pulse_2();
+                }
+                3 => {
+                    return self.pulse_3();
+                }
+                4 => {
+                    return self.pulse_4();
+                }
+                5 => {
+                    return self.pulse_5();
+                }
+                _ => {
+                    return self;
+                }
             }
-            if self.mode == 2 {
-                return self.pulse_2();
-            }
-            return self;
         }
         self
     }
@@ -474,6 +778,7 @@ impl Counter {
     {
         self.value = f.value;
         self.out = f.out;
+        self.odd = f.odd;
         Ran {
             counter: self,
             rises: f.rises,
@@ -494,22 +799,51 @@ impl Counter {
         ensures { λ r. ⌜ r ≡ steadyOf self n ⌝ }
     {
         if self.full {
-            if self.mode == 0 {
-                if self.half {
+            let mode = self.mode;
+            match mode {
+                0 => {
+                    if self.gate {
+                        if self.half {
+                            return self.rest();
+                        }
+                        return self.fall_to(fall_0(self.value, self.out, self.odd, n));
+                    }
                     return self.rest();
                 }
-                if self.gate {
-                    return self.fall_to(fall_0(self.value, self.out, n));
+                1 => {
+                    if self.pending {
+                        return self.rest();
+                    }
+                    return self.fall_to(fall_0(self.value, self.out, self.odd, n));
                 }
-                return self.rest();
-            }
-            if self.mode == 2 {
-                if self.gate {
-                    return self.fall_to(fall_2(self.count, self.value, self.out, n));
+                2 => {
+                    if self.gate {
+                        return self.fall_to(fall_2(self.count, self.value, self.out, self.odd, n));
+                    }
+                    return self.rest();
                 }
-                return self.rest();
+                3 => {
+                    if self.gate {
+                        return self.fall_to(fall_3(self.count, self.value, self.out, self.odd, n));
+                    }
+                    return self.rest();
+                }
+                4 => {
+                    if self.gate {
+                        return self.fall_to(fall_4(self.value, self.out, self.odd, n));
+                    }
+                    return self.rest();
+                }
+                5 => {
+                    if self.pending {
+                        return self.rest();
+                    }
+                    return self.fall_to(fall_4(self.value, self.out, self.odd, n));
+                }
+                _ => {
+                    return self.rest();
+                }
             }
-            return self.rest();
         }
         self.rest()
     }
@@ -539,7 +873,7 @@ impl Counter {
                 return self;
             }
             self.gate = true;
-            if self.mode == 2 {
+            if has_trigger(self.mode) {
                 if self.full {
                     self.trigger = true;
                     return self;
@@ -550,7 +884,7 @@ impl Counter {
         }
         if self.gate {
             self.gate = false;
-            if self.mode == 2 {
+            if lifts_out(self.mode) {
                 self.out = true;
                 return self;
             }

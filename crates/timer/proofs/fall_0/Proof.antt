@@ -13,10 +13,10 @@ use Rattle.bits.proofs.one_less.Reads as one-less-reads
 use Rattle.timer.proofs.rise.Reads as rise-reads
 
 abbrev Inv-loop : tie.InvT-loop
-Inv-loop value out n v₀ high₀ i₀ v high i = (i ≤ n) × (moved v high ≡ moving (fellOf fall0 (moved value out) i))
+Inv-loop value out odd n v₀ high₀ i₀ v high i = (i ≤ n) × (moved v high odd ≡ moving (fellOf fall0 (moved value out odd) i))
 
 abbrev μ-loop : tie.MeasureT-loop
-μ-loop value out n v₀ high₀ i₀ v high i = n - i
+μ-loop value out odd n v₀ high₀ i₀ v high i = n - i
 
 loop-holds : tie.Need-loop-holds Inv-loop μ-loop
 unfolding fellOf
@@ -35,7 +35,7 @@ loop-again : tie.Need-loop-again Inv-loop μ-loop
 loop-again c =
     let l = c .before .before .before .loop in
     let a = c .before .before .before .before .args in
-    (omega arith, moved-on fall0 (moved (a .value) (a .out)) (l .i) (moved (l .v) (l .high)) _ (l .inv .1) (rw (← c .before .one-less .ensures, eq-eqb _ _ (c .if1 .taken))))
+    (omega arith, moved-on fall0 (moved (a .value) (a .out) (a .odd)) (l .i) (moved (l .v) (l .high) (a .odd)) _ (l .inv .1) (rw (← c .before .one-less .ensures, eq-eqb _ _ (c .if1 .taken))))
 
 loop-less-2 : tie.Need-loop-less-2 Inv-loop μ-loop
 loop-less-2 c = omega arith
@@ -44,7 +44,7 @@ loop-again-2 : tie.Need-loop-again-2 Inv-loop μ-loop
 loop-again-2 c =
     let l = c .before .before .before .loop in
     let a = c .before .before .before .before .args in
-    (omega arith, moved-on fall0 (moved (a .value) (a .out)) (l .i) (moved (l .v) (l .high)) _ (l .inv .1) (rw (← c .before .one-less .ensures, ne-eqb _ _ (c .if1 .left))))
+    (omega arith, moved-on fall0 (moved (a .value) (a .out) (a .odd)) (l .i) (moved (l .v) (l .high) (a .odd)) _ (l .inv .1) (rw (← c .before .one-less .ensures, ne-eqb _ _ (c .if1 .left))))
 
 rise-requires : tie.Need-rise-requires Inv-loop μ-loop
 rise-requires c κs = search needs
@@ -54,7 +54,7 @@ returns c =
     let l = c .before .before .loop in
     let a = c .before .before .before .args in
     let e : l .i ≡ a .n = omega arith in
-    rw (← e) (fell-once fall0 (moved (a .value) (a .out)) stays0 (l .i) (moved (l .v) (l .high)) _ (l .inv .1) (c .rise .ensures .0))
+    rw (← e) (fell-once fall0 (moved (a .value) (a .out) (a .odd)) stays0 (l .i) (moved (l .v) (l .high) (a .odd)) _ (l .inv .1) (c .rise .ensures .0))
 
 pub fall-0-spec : {M : Type 1} → statement M
 fall-0-spec =

@@ -16,10 +16,10 @@ use Rattle.bits.proofs.one_less.Reads as one-less-reads
 use Rattle.timer.proofs.rise.Reads as rise-reads
 
 abbrev Inv-loop : tie.InvT-loop
-Inv-loop count value out n v₀ high₀ rises₀ i₀ v high rises i = (i ≤ n) × (rises ≤ i) × (_≡_ {A = Fall} (record { value = v; out = high; rises = rises }) (fellOf (fall2 count) (moved value out) i))
+Inv-loop count value out odd n v₀ high₀ rises₀ i₀ v high rises i = (i ≤ n) × (rises ≤ i) × (_≡_ {A = Fall} (record { value = v; out = high; odd = odd; rises = rises }) (fellOf (fall2 count) (moved value out odd) i))
 
 abbrev μ-loop : tie.MeasureT-loop
-μ-loop count value out n v₀ high₀ rises₀ i₀ v high rises i = n - i
+μ-loop count value out odd n v₀ high₀ rises₀ i₀ v high rises i = n - i
 
 loop-holds : tie.Need-loop-holds Inv-loop μ-loop
 unfolding fellOf
@@ -41,8 +41,8 @@ loop-again : tie.Need-loop-again Inv-loop μ-loop
 loop-again c =
     let l = c .before .before .before .loop in
     let a = c .before .before .before .before .args in
-    let f : Fall = record { value = l .v; out = l .high; rises = l .rises } in
-    (omega arith, omega arith, on (fall2 (a .count)) (moved (a .value) (a .out)) (l .i) f _ (l .inv .2) (rw (c .rise .ensures .0, eq-eqb _ _ (c .before .if1 .taken))))
+    let f : Fall = record { value = l .v; out = l .high; odd = a .odd; rises = l .rises } in
+    (omega arith, omega arith, on (fall2 (a .count)) (moved (a .value) (a .out) (a .odd)) (l .i) f _ (l .inv .2) (rw (c .rise .ensures .0, eq-eqb _ _ (c .before .if1 .taken))))
 
 one-less-requires : tie.Need-one-less-requires Inv-loop μ-loop
 one-less-requires c κs = search needs
@@ -54,8 +54,8 @@ loop-again-2 : tie.Need-loop-again-2 Inv-loop μ-loop
 loop-again-2 c =
     let l = c .before .before .before .before .loop in
     let a = c .before .before .before .before .before .args in
-    let f : Fall = record { value = l .v; out = l .high; rises = l .rises } in
-    (omega arith, omega arith, on (fall2 (a .count)) (moved (a .value) (a .out)) (l .i) f _ (l .inv .2) (rw (ne-eqb _ _ (c .before .before .if1 .left), ← c .before .one-less .ensures, eq-eqb _ _ (c .if2 .taken), no-rise-low (l .high), add-zero)))
+    let f : Fall = record { value = l .v; out = l .high; odd = a .odd; rises = l .rises } in
+    (omega arith, omega arith, on (fall2 (a .count)) (moved (a .value) (a .out) (a .odd)) (l .i) f _ (l .inv .2) (rw (ne-eqb _ _ (c .before .before .if1 .left), ← c .before .one-less .ensures, eq-eqb _ _ (c .if2 .taken), no-rise-low (l .high), add-zero)))
 
 loop-less-3 : tie.Need-loop-less-3 Inv-loop μ-loop
 loop-less-3 c = omega arith
@@ -64,8 +64,8 @@ loop-again-3 : tie.Need-loop-again-3 Inv-loop μ-loop
 loop-again-3 c =
     let l = c .before .before .before .before .loop in
     let a = c .before .before .before .before .before .args in
-    let f : Fall = record { value = l .v; out = l .high; rises = l .rises } in
-    (omega arith, omega arith, on (fall2 (a .count)) (moved (a .value) (a .out)) (l .i) f _ (l .inv .2) (rw (ne-eqb _ _ (c .before .before .if1 .left), ← c .before .one-less .ensures, ne-eqb _ _ (c .if2 .left), no-rise (l .high), add-zero)))
+    let f : Fall = record { value = l .v; out = l .high; odd = a .odd; rises = l .rises } in
+    (omega arith, omega arith, on (fall2 (a .count)) (moved (a .value) (a .out) (a .odd)) (l .i) f _ (l .inv .2) (rw (ne-eqb _ _ (c .before .before .if1 .left), ← c .before .one-less .ensures, ne-eqb _ _ (c .if2 .left), no-rise (l .high), add-zero)))
 
 returns : tie.Need-returns Inv-loop μ-loop
 returns c =

@@ -1,0 +1,35 @@
+use borrow.Author.Tests.{eq-eqb, ne-eqb}
+use borrow.Author.Needs.{needs}
+use Rattle.timer.specs.Mode5.{pulse5}
+use Rattle.timer.proofs.Counter.pulse_5.Statement.{statement}
+use Rattle.timer.proofs.Counter.pulse_5.Tie as tie
+use Rattle.timer.proofs.Counter.pulse_5.Reads as reads
+use Rattle.timer.proofs.Counter.pulse_5.Lts as lts
+use Rattle.bits.proofs.one_less.Reads as one-less-reads
+use Rattle.timer.proofs.Counter.transfer.Reads as transfer-reads
+
+transfer-requires : tie.Need-transfer-requires
+transfer-requires c κs = search needs
+
+returns : tie.Need-returns
+unfolding pulse5
+returns c = rw (c .transfer .ensures, c .before .if1 .taken)
+
+returns-2 : tie.Need-returns-2
+unfolding pulse5
+returns-2 c = rw (c .before .if1 .left, c .if2 .taken)
+
+one-less-requires : tie.Need-one-less-requires
+one-less-requires c κs = search needs
+
+returns-3 : tie.Need-returns-3
+unfolding pulse5
+returns-3 c = rw (c .before .before .before .if1 .left, c .before .before .if2 .left, ← c .before .one-less .ensures, eq-eqb _ _ (c .if3 .taken))
+
+returns-4 : tie.Need-returns-4
+unfolding pulse5
+returns-4 c = rw (c .before .before .before .if1 .left, c .before .before .if2 .left, ← c .before .one-less .ensures, ne-eqb _ _ (c .if3 .left))
+
+pub pulse-5-spec : {M : Type 1} → statement M
+pulse-5-spec =
+    tie.close (tie.spec transfer-requires returns returns-2 one-less-requires returns-3 returns-4)
