@@ -1,12 +1,13 @@
 -- Each range is exact: its values are reached (Reaches.antt), and no reached board has another.
 use Prim.Native.Nat.{ℕ, zero, suc, _/_, _%_, _<_}
-use mathlib.Core.Path.{_≡_, refl, subst}
+use mathlib.Core.Path.{_≡_, refl, sym, subst, _∙_}
 use mathlib.Core.Bool.{Bool, true, false, not, true≢false, false≢true}
 use mathlib.Core.List.{[], _∷_}
 use native.Mathlib.Omega.{arith}
 use lib.Dec.{eqb, ltb}
-use borrow.Author.Tests.{eqb-true, ltb-true, ltb-false, eq-eqb, lt-ltb, le-ltb}
-use Rattle.bits.specs.Choice.{if_then_else_, _and_, _or_}
+use borrow.Author.Tests.{eqb-true, ltb-true, ltb-false, eq-eqb, ne-eqb, lt-ltb, le-ltb}
+use Rattle.bits.specs.Choice.{if_then_else_, _and_, _or_, every}
+use Rattle.bits.proofs.Every.{alike}
 use Rattle.timer.specs.declared.Counter.{Counter}
 use Rattle.timer.specs.Timer.{at}
 use Rattle.dma.specs.declared.Channel.{Channel}
@@ -35,7 +36,7 @@ both f reaches = exactly reaches (λ b r. small (f b))
 
 -- A counter's mode and format, and a channel's mode.
 abbrev modeTest : ℕ → Bool
-modeTest v = eqb v 0 or eqb v 2 or eqb v 255
+modeTest v = ltb v 6 or eqb v 255
 
 counter-is : {b : Board} → Reached b → (n : ℕ) → (ltb (at (b .timer) n .format) 4 and modeTest (at (b .timer) n .mode)) ≡ true
 unfolding counterGood
@@ -44,17 +45,32 @@ counter-is r n = reached-held r .timer n
 format-is : {b : Board} → Reached b → (n : ℕ) → at (b .timer) n .format < 4
 format-is {b} r n = ltb-true _ 4 (both-left (ltb (at (b .timer) n .format) 4) (modeTest (at (b .timer) n .mode)) (counter-is r n))
 
-last-of : (p q w : Bool) → (p or q or w) ≡ true → (p or q or w or false) ≡ true
-last-of true q w h = refl
-last-of false true w h = refl
-last-of false false true h = refl
-last-of false false false h = h
+mode-test : (v : ℕ) → among v (0 ∷ 1 ∷ 2 ∷ 3 ∷ 4 ∷ 5 ∷ 255 ∷ []) ≡ modeTest v
+unfolding among every
+mode-test v = go (ltb v 6) refl
+  where
+    last : (q : Bool) → (q or false) ≡ q
+    last true = refl
+    last false = refl
 
-mode-is : {b : Board} → Reached b → (n : ℕ) → among (at (b .timer) n .mode) (0 ∷ 2 ∷ 255 ∷ []) ≡ true
-unfolding among
+    go : (q : Bool) → ltb v 6 ≡ q → among v (0 ∷ 1 ∷ 2 ∷ 3 ∷ 4 ∷ 5 ∷ 255 ∷ []) ≡ (q or eqb v 255)
+    go true q = alike (λ k. among k (0 ∷ 1 ∷ 2 ∷ 3 ∷ 4 ∷ 5 ∷ 255 ∷ [])) (λ _. true) 6 tt v (ltb-true v 6 q)
+    go false q =
+        let l = ltb-false v 6 q in
+        rw (
+          ne-eqb v 0 (omega arith),
+          ne-eqb v 1 (omega arith),
+          ne-eqb v 2 (omega arith),
+          ne-eqb v 3 (omega arith),
+          ne-eqb v 4 (omega arith),
+          ne-eqb v 5 (omega arith),
+        )
+        (last (eqb v 255))
+
+mode-is : {b : Board} → Reached b → (n : ℕ) → among (at (b .timer) n .mode) (0 ∷ 1 ∷ 2 ∷ 3 ∷ 4 ∷ 5 ∷ 255 ∷ []) ≡ true
 mode-is {b} r n =
     let v = at (b .timer) n .mode in
-    last-of (eqb v 0) (eqb v 2) (eqb v 255) (both-right (ltb (at (b .timer) n .format) 4) (modeTest v) (counter-is r n))
+    mode-test v ∙ both-right (ltb (at (b .timer) n .format) 4) (modeTest v) (counter-is r n)
 
 built : (v : ℕ) → unbuiltMode v ≡ false → modes v ≡ true
 unfolding unbuiltMode
@@ -76,21 +92,15 @@ unbuilt v h = go (eqb (v / 64) 3) (eqb (v / 4 % 4) 3) h
     go false true h = absurd (false≢true h)
     go false false h = le-ltb 0 (v % 4) (omega (arith, eqb-true (v % 4) 0 h))
 
-one-of : (p q w : Bool) → (p or q or w or false) ≡ true → (p or q or w) ≡ true
-one-of true q w h = refl
-one-of false true w h = refl
-one-of false false true h = refl
-one-of false false false h = h
+counter-good : (c : Counter) → c .format < 4 → among (c .mode) (0 ∷ 1 ∷ 2 ∷ 3 ∷ 4 ∷ 5 ∷ 255 ∷ []) ≡ true → counterGood c ≡ true
+unfolding counterGood
+counter-good c h k = rw (lt-ltb (c .format) 4 h) (sym (mode-test (c .mode)) ∙ k)
 
-counter-good : (c : Counter) → c .format < 4 → among (c .mode) (0 ∷ 2 ∷ 255 ∷ []) ≡ true → counterGood c ≡ true
-unfolding counterGood among
-counter-good c h k = rw (lt-ltb (c .format) 4 h) (one-of (eqb (c .mode) 0) (eqb (c .mode) 2) (eqb (c .mode) 255) k)
-
-good-counter : (c : Counter) → counterGood c ≡ true → (c .format < 4) × (among (c .mode) (0 ∷ 2 ∷ 255 ∷ []) ≡ true)
-unfolding counterGood among
+good-counter : (c : Counter) → counterGood c ≡ true → (c .format < 4) × (among (c .mode) (0 ∷ 1 ∷ 2 ∷ 3 ∷ 4 ∷ 5 ∷ 255 ∷ []) ≡ true)
+unfolding counterGood
 good-counter c h = (
   ltb-true (c .format) 4 (both-left (ltb (c .format) 4) (modeTest (c .mode)) h),
-  last-of (eqb (c .mode) 0) (eqb (c .mode) 2) (eqb (c .mode) 255) (both-right (ltb (c .format) 4) (modeTest (c .mode)) h),
+  mode-test (c .mode) ∙ both-right (ltb (c .format) 4) (modeTest (c .mode)) h,
 )
 
 channel-good : (c : Channel) → c .current .address < 16777216 → c .base .address < 16777216 → modes (c .mode) ≡ true → channelGood c ≡ true
@@ -131,7 +141,7 @@ module _ (b : Board) (t : Typed b) where
           → (counterGood (at (b .timer) 1) and counterGood (at (b .timer) 2)) ≡ true
           → (n : ℕ)
           → n < 3
-          → (at (b .timer) n .format < 4) × (among (at (b .timer) n .mode) (0 ∷ 2 ∷ 255 ∷ []) ≡ true)
+          → (at (b .timer) n .format < 4) × (among (at (b .timer) n .mode) (0 ∷ 1 ∷ 2 ∷ 3 ∷ 4 ∷ 5 ∷ 255 ∷ []) ≡ true)
       counters p q zero l = good-counter (at (b .timer) 0) (both-left (counterGood (at (b .timer) 0)) _ p)
       counters p q (suc zero) l = good-counter (at (b .timer) 1) (both-left (counterGood (at (b .timer) 1)) (counterGood (at (b .timer) 2)) q)
       counters p q (suc (suc zero)) l = good-counter (at (b .timer) 2) (both-right (counterGood (at (b .timer) 1)) (counterGood (at (b .timer) 2)) q)
@@ -197,6 +207,7 @@ exact =
       second = λ n l. both (λ b. at (b .timer) n .second) (λ v h. up.second n v l h);
       gate = λ n l. both (λ b. at (b .timer) n .gate) (λ v h. up.gate n v l h);
       out = λ n l. both (λ b. at (b .timer) n .out) (λ v h. up.out n v l h);
+      odd = λ n l. both (λ b. at (b .timer) n .odd) (λ v h. up.odd n v l h);
       address = λ n l. exactly (λ v h. up.address n v l h) (λ b r. reached-sound r .good n .address);
       base-address = λ n l. exactly (λ v h. up.base-address n v l h) (λ b r. reached-sound r .good n .home);
       current-count = λ n l. exactly (λ v h. up.units n v l h) (λ b r. reached-sound r .good n .count);

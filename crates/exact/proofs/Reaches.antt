@@ -6,10 +6,11 @@ use mathlib.Core.List.{List, [], _∷_, _++_}
 use native.Mathlib.Omega.{arith}
 use lib.Dec.{T, eqb, ltb}
 use lib.ListN.{length, getD, replicate}
-use borrow.Author.Tests.{eqb-true, ltb-true, ltb-false, lt-ltb, ne-eqb}
+use borrow.Author.Tests.{eqb-true, eqb-false, ltb-true, ltb-false, lt-ltb, le-ltb, ne-eqb}
 use Rattle.bits.specs.Choice.{if_then_else_, _and_, _or_}
 use Rattle.bits.specs.Bits.{bitOf, weighed}
 use Rattle.bits.proofs.Every.{grid, within}
+use Rattle.timer.specs.Ports.{sizeOf}
 use Rattle.board.specs.declared.Board.{Board}
 use Rattle.board.specs.Wiring.{freshOf}
 use Rattle.dma.specs.Registers.{byte-is}
@@ -140,7 +141,7 @@ abbrev count-byte : ℕ → ℕ → List ℕ
 count-byte n x = writing (16 + n) x
 
 abbrev modesOf : ℕ → Bool
-modesOf v = among v (0 ∷ 2 ∷ 255 ∷ [])
+modesOf v = among v (0 ∷ 1 ∷ 2 ∷ 3 ∷ 4 ∷ 5 ∷ 255 ∷ [])
 
 mode-byte : (v : ℕ) → modesOf v ≡ true → v < 256
 unfolding among
@@ -150,7 +151,20 @@ mode-byte v h = go (ltb v 256) refl
     go true q = ltb-true v 256 q
     go false q =
         let l = ltb-false v 256 q in
-        absurd (false≢true (sym (rw (ne-eqb v 0 (omega arith), ne-eqb v 2 (omega arith), ne-eqb v 255 (omega arith)) refl) ∙ h))
+        absurd
+        (false≢true
+        (sym
+        (rw (
+          ne-eqb v 0 (omega arith),
+          ne-eqb v 1 (omega arith),
+          ne-eqb v 2 (omega arith),
+          ne-eqb v 3 (omega arith),
+          ne-eqb v 4 (omega arith),
+          ne-eqb v 5 (omega arith),
+          ne-eqb v 255 (omega arith),
+        )
+        refl)
+        ∙ h))
 
 pub mode : (n v : ℕ) → n < 3 → modesOf v ≡ true → Has (λ b. counter n b .mode) v
 unfolding rules joined board areBytes among
@@ -166,29 +180,37 @@ format n v hn h =
 two : (v : ℕ) → v % 256 + v / 256 * 256 ≡ v
 two v = omega arith
 
+-- It is no smaller a count than mode 0 takes.
+fits : (v : ℕ) → ltb (sizeOf (v % 256 + v / 256 * 256)) 1 ≡ false
+fits v = go (eqb (v % 256 + v / 256 * 256) 0) refl
+  where
+    go : (q : Bool) → eqb (v % 256 + v / 256 * 256) 0 ≡ q → ltb (if q then 65536 else v % 256 + v / 256 * 256) 1 ≡ false
+    go true q = refl
+    go false q = le-ltb (v % 256 + v / 256 * 256) 1 (omega (arith, eqb-false (v % 256 + v / 256 * 256) 0 q))
+
 -- The last complete count, the counter's own value a pulse later, and what a latch holds then.
 abbrev counted : ℕ → ℕ → List (List ℕ)
 counted n v = control n 48 ∷ count-byte n (v % 256) ∷ count-byte n (v / 256) ∷ []
 
 pub count : (n v : ℕ) → n < 3 → v < 65536 → Has (λ b. counter n b .count) v
 unfolding rules joined board areBytes
-count zero v h l = on-board (λ b. counter 0 b .count) v (counted 0 v) (rw (lt-ltb (v % 256) 256 (omega arith), lt-ltb (v / 256) 256 (omega arith))) (two v)
-count (suc zero) v h l = on-board (λ b. counter 1 b .count) v (counted 1 v) (rw (lt-ltb (v % 256) 256 (omega arith), lt-ltb (v / 256) 256 (omega arith))) (two v)
-count (suc (suc zero)) v h l = on-board (λ b. counter 2 b .count) v (counted 2 v) (rw (lt-ltb (v % 256) 256 (omega arith), lt-ltb (v / 256) 256 (omega arith))) (two v)
+count zero v h l = on-board (λ b. counter 0 b .count) v (counted 0 v) (rw (lt-ltb (v % 256) 256 (omega arith), lt-ltb (v / 256) 256 (omega arith))) (rw (fits v) (two v))
+count (suc zero) v h l = on-board (λ b. counter 1 b .count) v (counted 1 v) (rw (lt-ltb (v % 256) 256 (omega arith), lt-ltb (v / 256) 256 (omega arith))) (rw (fits v) (two v))
+count (suc (suc zero)) v h l = on-board (λ b. counter 2 b .count) v (counted 2 v) (rw (lt-ltb (v % 256) 256 (omega arith), lt-ltb (v / 256) 256 (omega arith))) (rw (fits v) (two v))
 count (suc (suc (suc n))) v h l = absurd (omega arith)
 
 pub value : (n v : ℕ) → n < 3 → v < 65536 → Has (λ b. counter n b .value) v
 unfolding rules joined board areBytes
-value zero v h l = on-board (λ b. counter 0 b .value) v (counted 0 v ++ advancing 1 ∷ []) (rw (lt-ltb (v % 256) 256 (omega arith), lt-ltb (v / 256) 256 (omega arith))) (two v)
-value (suc zero) v h l = on-board (λ b. counter 1 b .value) v (counted 1 v ++ advancing 1 ∷ []) (rw (lt-ltb (v % 256) 256 (omega arith), lt-ltb (v / 256) 256 (omega arith))) (two v)
-value (suc (suc zero)) v h l = on-board (λ b. counter 2 b .value) v (counted 2 v ++ advancing 1 ∷ []) (rw (lt-ltb (v % 256) 256 (omega arith), lt-ltb (v / 256) 256 (omega arith))) (two v)
+value zero v h l = on-board (λ b. counter 0 b .value) v (counted 0 v ++ advancing 1 ∷ []) (rw (lt-ltb (v % 256) 256 (omega arith), lt-ltb (v / 256) 256 (omega arith))) (rw (fits v) (two v))
+value (suc zero) v h l = on-board (λ b. counter 1 b .value) v (counted 1 v ++ advancing 1 ∷ []) (rw (lt-ltb (v % 256) 256 (omega arith), lt-ltb (v / 256) 256 (omega arith))) (rw (fits v) (two v))
+value (suc (suc zero)) v h l = on-board (λ b. counter 2 b .value) v (counted 2 v ++ advancing 1 ∷ []) (rw (lt-ltb (v % 256) 256 (omega arith), lt-ltb (v / 256) 256 (omega arith))) (rw (fits v) (two v))
 value (suc (suc (suc n))) v h l = absurd (omega arith)
 
 pub latch : (n v : ℕ) → n < 3 → v < 65536 → Has (λ b. counter n b .latch) v
 unfolding rules joined board areBytes
-latch zero v h l = on-board (λ b. counter 0 b .latch) v (counted 0 v ++ advancing 1 ∷ control 0 0 ∷ []) (rw (lt-ltb (v % 256) 256 (omega arith), lt-ltb (v / 256) 256 (omega arith))) (two v)
-latch (suc zero) v h l = on-board (λ b. counter 1 b .latch) v (counted 1 v ++ advancing 1 ∷ control 1 0 ∷ []) (rw (lt-ltb (v % 256) 256 (omega arith), lt-ltb (v / 256) 256 (omega arith))) (two v)
-latch (suc (suc zero)) v h l = on-board (λ b. counter 2 b .latch) v (counted 2 v ++ advancing 1 ∷ control 2 0 ∷ []) (rw (lt-ltb (v % 256) 256 (omega arith), lt-ltb (v / 256) 256 (omega arith))) (two v)
+latch zero v h l = on-board (λ b. counter 0 b .latch) v (counted 0 v ++ advancing 1 ∷ control 0 0 ∷ []) (rw (lt-ltb (v % 256) 256 (omega arith), lt-ltb (v / 256) 256 (omega arith))) (rw (fits v) (two v))
+latch (suc zero) v h l = on-board (λ b. counter 1 b .latch) v (counted 1 v ++ advancing 1 ∷ control 1 0 ∷ []) (rw (lt-ltb (v % 256) 256 (omega arith), lt-ltb (v / 256) 256 (omega arith))) (rw (fits v) (two v))
+latch (suc (suc zero)) v h l = on-board (λ b. counter 2 b .latch) v (counted 2 v ++ advancing 1 ∷ control 2 0 ∷ []) (rw (lt-ltb (v % 256) 256 (omega arith), lt-ltb (v / 256) 256 (omega arith))) (rw (fits v) (two v))
 latch (suc (suc (suc n))) v h l = absurd (omega arith)
 
 -- The byte kept apart.
@@ -233,6 +255,12 @@ module _ (n v : ℕ) (hn : n < 3) (h : v < 2) where
   pub out : Has (λ b. weighed (counter n b .out) 1) v
   unfolding rules joined board areBytes
   out = by-runs (λ n b. weighed (counter n b .out) 1) (λ n v. where-set v (control n 20 ∷ []) []) any 3 2 tt n v hn h refl
+
+  -- Mode 3 with count 3, a pulse later.
+  pub odd : Has (λ b. weighed (counter n b .odd) 1) v
+  unfolding rules joined board areBytes
+  odd =
+      by-runs (λ n b. weighed (counter n b .odd) 1) (λ n v. where-set v (control n 22 ∷ count-byte n 3 ∷ advancing 1 ∷ []) []) any 3 2 tt n v hn h refl
 
 -- Channel n of the DMA chip: a write with BASE=0 puts each byte into base and current alike.
 abbrev addressed : ℕ → ℕ → List (List ℕ)

@@ -62,7 +62,7 @@ pub record Within (b : Board) : Type 0 where
   pub iw1 : iw1s (b .icu .iw1) ≡ true
   pub lowest : b .icu .lowest < 8
   pub intp : evens (b .intp) ≡ true
-  pub mode : (n : ℕ) → n < 3 → among (counter n b .mode) (0 ∷ 2 ∷ 255 ∷ []) ≡ true
+  pub mode : (n : ℕ) → n < 3 → among (counter n b .mode) (0 ∷ 1 ∷ 2 ∷ 3 ∷ 4 ∷ 5 ∷ 255 ∷ []) ≡ true
   pub format : (n : ℕ) → n < 3 → counter n b .format < 4
   pub address : (n : ℕ) → n < 4 → channel-of n b .current .address < 16777216
   pub base-address : (n : ℕ) → n < 4 → channel-of n b .base .address < 16777216
@@ -91,8 +91,8 @@ pub record Exact : Type 0 where
   pub imr : Exactly (λ b. b .icu .imr) (Below 256)
   pub lowest : Exactly (λ b. b .icu .lowest) (Below 8)
   pub intp : Exactly (λ b. b .intp) (ByteWith evens)
-  -- Counter n. Its mode is 0, 2 or 255, none yet.
-  pub mode : (n : ℕ) → n < 3 → Exactly (λ b. counter n b .mode) (λ v. among v (0 ∷ 2 ∷ 255 ∷ []) ≡ true)
+  -- Counter n. Its mode is 0 to 5, or 255, none yet.
+  pub mode : (n : ℕ) → n < 3 → Exactly (λ b. counter n b .mode) (λ v. among v (0 ∷ 1 ∷ 2 ∷ 3 ∷ 4 ∷ 5 ∷ 255 ∷ []) ≡ true)
   pub format : (n : ℕ) → n < 3 → Exactly (λ b. counter n b .format) (Below 4)
   pub value : (n : ℕ) → n < 3 → Exactly (λ b. counter n b .value) (Below 65536)
   pub count : (n : ℕ) → n < 3 → Exactly (λ b. counter n b .count) (Below 65536)
@@ -106,6 +106,7 @@ pub record Exact : Type 0 where
   pub second : (n : ℕ) → n < 3 → Both (λ b. counter n b .second)
   pub gate : (n : ℕ) → n < 3 → Both (λ b. counter n b .gate)
   pub out : (n : ℕ) → n < 3 → Both (λ b. counter n b .out)
+  pub odd : (n : ℕ) → n < 3 → Both (λ b. counter n b .odd)
   -- Channel n of the DMA chip.
   pub address : (n : ℕ) → n < 4 → Exactly (λ b. channel-of n b .current .address) (Below 16777216)
   pub base-address : (n : ℕ) → n < 4 → Exactly (λ b. channel-of n b .base .address) (Below 16777216)

@@ -7,16 +7,18 @@ use native.Mathlib.Omega.{arith}
 use lib.Dec.{eqb}
 use lib.ListN.{getD, set}
 use Rattle.bits.specs.Bits.{bitOf}
-use Rattle.bits.specs.Choice.{_and_}
 use Rattle.timer.specs.declared.Counter.{Counter}
 use Rattle.timer.specs.declared.Timer.{Timer}
 use Rattle.timer.specs.declared.Written.{Written}
 use Rattle.timer.specs.declared.Got.{Got}
-use Rattle.timer.specs.Ports.{Answer, SC, RWM, CM, BCD, moded, modeSet, modeWord, latchWord, controlOf, completed, countOf, begun, writeOf, readOf}
+use Rattle.timer.specs.Modes.{moded}
+use Rattle.timer.specs.Ports.{Answer, SC, RWM, BCD, modeSet, modeWord, latchWord, controlOf, completed, countOf, begun, writeOf, readOf}
 use Rattle.timer.specs.Pulse.{gateOf}
 use Rattle.timer.specs.Timer.{blank, at, wroteBy, gotBy, controlsOf, writesOf, readsOf, three, gatesOf}
+use Rattle.timer.proofs.Pulses.{gated, counted, begins}
 use Rattle.tape.proofs.Decodes.{either}
 use Rattle.promises.specs.TaughtWords.{writingOf, readingOf, valueOf}
+use Rattle.promises.proofs.Ruled.{tooSmall}
 use Rattle.promises.proofs.Lists.{put}
 
 -- One counter replaced by one that has the same, of whatever is looked at.
@@ -44,8 +46,7 @@ module _ (c : Counter) where
   control-value w =
       either S (eqb (RWM w) 0)
       (λ _. either S (moded c) (λ _. either S (c .latched) (λ _. refl) (λ _. refl)) (λ _. refl))
-      (λ _. either S (eqb (BCD w) 1) (λ _. refl)
-      (λ _. either S (eqb (CM w) 0) (λ _. refl) (λ _. either S (eqb (CM w % 4) 2) (λ _. refl) (λ _. refl))))
+      (λ _. either S (eqb (BCD w) 1) (λ _. refl) (λ _. refl))
 
   -- A count byte leaves the value and where a reading stands.
   module _ {A : Type 0} (f : Counter → A)
@@ -56,7 +57,7 @@ module _ (c : Counter) where
 
     count-same : (n : ℕ) → F (countOf c n)
     unfolding countOf
-    count-same n = either F (eqb (c .mode) 2 and eqb n 1) (λ _. refl) (λ _. done n)
+    count-same n = either F (tooSmall c n) (λ _. refl) (λ _. done n)
 
     write-same : (x : ℕ) → F (writeOf c x)
     unfolding writeOf
@@ -68,20 +69,12 @@ module _ (c : Counter) where
         (λ _. refl)
 
   write-value : (x : ℕ) → valueOf (writeOf c x .counter) ≡ valueOf c
-  unfolding completed begun valueOf
-  write-value x =
-      write-same valueOf
-      (λ n. either (λ (d : Counter). valueOf d ≡ valueOf c) (eqb (c .mode) 0) (λ _. refl) (λ _. either (λ (d : Counter). valueOf d ≡ valueOf c) (c .full) (λ _. refl) (λ _. refl)))
-      (λ y. either (λ (d : Counter). valueOf d ≡ valueOf c) (eqb (c .mode) 0) (λ _. refl) (λ _. refl))
-      x
+  unfolding valueOf
+  write-value x = write-same valueOf (λ n. ap valueOf (counted c n)) (λ y. ap valueOf (begins c y)) x
 
   write-reading : (x : ℕ) → readingOf (writeOf c x .counter) ≡ readingOf c
-  unfolding completed begun readingOf
-  write-reading x =
-      write-same readingOf
-      (λ n. either (λ (d : Counter). readingOf d ≡ readingOf c) (eqb (c .mode) 0) (λ _. refl) (λ _. either (λ (d : Counter). readingOf d ≡ readingOf c) (c .full) (λ _. refl) (λ _. refl)))
-      (λ y. either (λ (d : Counter). readingOf d ≡ readingOf c) (eqb (c .mode) 0) (λ _. refl) (λ _. refl))
-      x
+  unfolding readingOf
+  write-reading x = write-same readingOf (λ n. ap readingOf (counted c n)) (λ y. ap readingOf (begins c y)) x
 
   -- A read leaves the value and where a writing stands.
   read-same : Untouched c (readOf c)
@@ -95,14 +88,8 @@ module _ (c : Counter) where
 
   -- A gate leaves the value.
   gate-value : (k : Bool) → valueOf (gateOf c k) ≡ valueOf c
-  unfolding gateOf valueOf
-  gate-value k =
-      either (λ (d : Counter). valueOf d ≡ valueOf c) k
-      (λ _. either (λ (d : Counter). valueOf d ≡ valueOf c) (c .gate) (λ _. refl)
-      (λ _. either (λ (d : Counter). valueOf d ≡ valueOf c) (eqb (c .mode) 2 and c .full) (λ _. refl) (λ _. refl)))
-      (λ _. either (λ (d : Counter). valueOf d ≡ valueOf c) (c .gate)
-      (λ _. either (λ (d : Counter). valueOf d ≡ valueOf c) (eqb (c .mode) 2) (λ _. refl) (λ _. refl))
-      (λ _. refl))
+  unfolding valueOf
+  gate-value k = ap valueOf (gated c k)
 
 -- All three.
 module _ (t : Timer) (n : ℕ) where

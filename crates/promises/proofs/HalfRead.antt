@@ -1,16 +1,16 @@
--- Half a two-byte count read: the next read of that counter is the high byte, whatever came between.
-use mathlib.Core.Path.{_≡_, refl, ap, _∙_}
+-- What stays of a counter that is left unread. Half a two-byte count read: the next read of that counter is the high byte, whatever came between.
+use mathlib.Core.Path.{_≡_, refl, sym, ap, subst, _∙_}
 use mathlib.Core.Logic.{_≢_}
 use mathlib.Core.List.{List}
 use mathlib.Core.Bool.{Bool, true, false, not, true≢false}
 use Prim.Native.Nat.{ℕ, zero, suc, _+_, _*_, _/_, _%_, _<_}
 use native.Mathlib.Omega.{arith}
-use lib.Dec.{eqb}
+use lib.Dec.{eqb, ltb}
 use lib.ListN.{getD, set, length}
 use lib.Seq.{getD-set-same}
 use borrow.Author.Tests.{eqb-true, eqb-false, eq-eqb, ne-eqb, le-leb, le-ltb, lt-ltb}
-use Rattle.bits.specs.Choice.{_and_, _or_}
-use Rattle.bits.specs.Bits.{bitOf, less}
+use Rattle.bits.specs.Choice.{_and_}
+use Rattle.bits.specs.Bits.{bitOf}
 use Rattle.tape.specs.Records.{byte, unused, readable, pulseCount, decodeOf}
 use Rattle.tape.specs.Answers.{answerOf}
 use Rattle.icu.specs.declared.Icu.{Icu}
@@ -19,9 +19,10 @@ use Rattle.timer.specs.declared.Timer.{Timer}
 use Rattle.timer.specs.declared.Written.{Written}
 use Rattle.timer.specs.declared.Got.{Got}
 use Rattle.timer.specs.Fields.{second-is, latched-is}
-use Rattle.timer.specs.Ports.{Answer, read-as, SC, RWM, moded, latchWord, controlOf, completed, countOf, begun, held}
+use Rattle.timer.specs.Modes.{moded}
+use Rattle.timer.specs.Ports.{Answer, read-as, SC, RWM, latchWord, controlOf, countOf, held}
 use Rattle.timer.specs.Ports as Ports
-use Rattle.timer.specs.Pulse.{pulse0, pulse2, pulseOf, gateOf}
+use Rattle.timer.specs.Pulse.{pulseOf, gateOf}
 use Rattle.timer.specs.Timer.{blank, at, counter-is, wroteBy, gotBy, controlsOf, writesOf, readsOf, gatesOf}
 use Rattle.board.specs.declared.Board.{Board}
 use Rattle.board.specs.declared.Stepped.{Stepped}
@@ -30,147 +31,138 @@ use Rattle.board.specs.Wiring.{timer-is}
 use Rattle.board.specs.Advance.{tickOf, advancedOf}
 use Rattle.board.specs.Step.{executeOf, blocked, outcomeOf, answeredOf, stepOf}
 use Rattle.board.specs.Records.{recordAt, after}
+use Rattle.timer.proofs.Pulses.{pulsed, gated, counted, begins}
 use Rattle.tape.proofs.Decodes.{either}
 use Rattle.promises.specs.Words.{dataIn}
 use Rattle.promises.specs.TaughtWords.{modeWordFor, asksReading, Unread, readAt, Reads}
+use Rattle.promises.proofs.Ruled.{tooSmall}
+use Rattle.promises.proofs.Logic.{left-false}
 use Rattle.promises.proofs.Lists.{put}
 use Rattle.promises.proofs.TimerSteps.{Timed, stays, resets, writes, reads, sets, pulses, timed}
-use Rattle.promises.proofs.Plain.{pulse-at}
+use Rattle.promises.proofs.Plain.{pulse-at, gate-at}
 
--- A counter whose low byte was read: its high byte is to be read next.
-pub record Halfway (c : Counter) : Type 0 where
-  pub set : moded c ≡ true
-  pub both : c .format ≡ 3
-  pub second : c .second ≡ true
+-- What no record changes of a counter that it leaves unread: the mode, the format, which byte is read next, and a latch.
+pub record Kept (c d : Counter) : Type 0 where
+  pub mode : d .mode ≡ c .mode
+  pub format : d .format ≡ c .format
+  pub second : d .second ≡ c .second
+  pub latched : c .latched ≡ true → d .latched ≡ true
+  pub latch : c .latched ≡ true → d .latch ≡ c .latch
 
--- One counter: a count byte, a latch, a pulse and a gate leave it halfway.
-module _ (c : Counter) (h : Halfway c) where
+-- One counter: a count byte, a latch, a pulse and a gate keep it.
+module _ (c d : Counter) (h : Kept c d) where
   abbrev P : Answer → Type 0
-  P a = Halfway (a .counter)
+  P a = Kept c (a .counter)
 
   -- The same counter but for fields that do not matter here.
-  like : (d : Counter) → d .mode ≡ c .mode → d .format ≡ c .format → d .second ≡ c .second → Halfway d
-  unfolding moded
-  like d e f g = record { set = ap (λ (q : ℕ). eqb q 0 or eqb q 2) e ∙ h .set; both = f ∙ h .both; second = g ∙ h .second }
+  like : (e : Counter) → e .mode ≡ d .mode → e .format ≡ d .format → e .second ≡ d .second → e .latched ≡ d .latched → e .latch ≡ d .latch → Kept c e
+  like e m f s l k =
+      record {
+        mode = m ∙ h .mode;
+        format = f ∙ h .format;
+        second = s ∙ h .second;
+        latched = λ q. l ∙ h .latched q;
+        latch = λ q. k ∙ h .latch q;
+      }
 
-  latch-half : P (latchWord c)
+  latch-kept : P (latchWord d)
   unfolding latchWord
-  latch-half = either P (moded c) (λ _. either P (c .latched) (λ _. h) (λ _. like _ refl refl refl)) (λ _. h)
-
-  count-half : (n : ℕ) → P (countOf c n)
-  unfolding countOf completed
-  count-half n =
-      either P (eqb (c .mode) 2 and eqb n 1) (λ _. h)
-      (λ _. either Halfway (eqb (c .mode) 0) (λ _. like _ refl refl refl)
-      (λ _. either Halfway (c .full) (λ _. like _ refl refl refl) (λ _. like _ refl refl refl)))
-
-  write-half : (x : ℕ) → P (Ports.writeOf c x)
-  unfolding Ports.writeOf begun
-  write-half x =
-      either P (moded c)
-      (λ _. either P (eqb (c .format) 1) (λ _. count-half x)
-      (λ _. either P (eqb (c .format) 2) (λ _. count-half (x * 256))
-      (λ _. either P (c .half) (λ _. count-half (c .low + x * 256))
-      (λ _. either Halfway (eqb (c .mode) 0) (λ _. like _ refl refl refl) (λ _. like _ refl refl refl)))))
+  latch-kept =
+      either P (moded d)
+      (λ _. either P (d .latched) (λ _. h)
+      (λ z. record {
+        mode = h .mode;
+        format = h .format;
+        second = h .second;
+        latched = λ _. refl;
+        latch = λ q. absurd (true≢false (sym (h .latched q) ∙ z));
+      }))
       (λ _. h)
 
-  pulse-half : Halfway (pulseOf c)
-  unfolding pulseOf pulse0 pulse2
-  pulse-half =
-      either Halfway (c .full)
-      (λ _. either Halfway (eqb (c .mode) 0)
-      (λ _. either Halfway (c .pending) (λ _. like _ refl refl refl)
-      (λ _. either Halfway (c .half) (λ _. h)
-      (λ _. either Halfway (c .gate)
-      (λ _. either Halfway (eqb (less (c .value)) 0) (λ _. like _ refl refl refl) (λ _. like _ refl refl refl))
-      (λ _. h))))
-      (λ _. either Halfway (eqb (c .mode) 2)
-      (λ _. either Halfway (c .pending) (λ _. like _ refl refl refl)
-      (λ _. either Halfway (c .trigger) (λ _. like _ refl refl refl)
-      (λ _. either Halfway (c .gate)
-      (λ _. either Halfway (eqb (c .value) 1) (λ _. like _ refl refl refl)
-      (λ _. either Halfway (eqb (less (c .value)) 1) (λ _. like _ refl refl refl) (λ _. like _ refl refl refl)))
-      (λ _. h))))
-      (λ _. h)))
+  count-kept : (n : ℕ) → P (countOf d n)
+  unfolding countOf
+  count-kept n =
+      either P (tooSmall d n) (λ _. h) (λ _. subst (Kept c) (sym (counted d n)) (like _ refl refl refl refl refl))
+
+  write-kept : (x : ℕ) → P (Ports.writeOf d x)
+  unfolding Ports.writeOf
+  write-kept x =
+      either P (moded d)
+      (λ _. either P (eqb (d .format) 1) (λ _. count-kept x)
+      (λ _. either P (eqb (d .format) 2) (λ _. count-kept (x * 256))
+      (λ _. either P (d .half) (λ _. count-kept (d .low + x * 256))
+      (λ _. subst (Kept c) (sym (begins d x)) (like _ refl refl refl refl refl)))))
       (λ _. h)
 
-  gate-half : (k : Bool) → Halfway (gateOf c k)
-  unfolding gateOf
-  gate-half k =
-      either Halfway k
-      (λ _. either Halfway (c .gate) (λ _. h)
-      (λ _. either Halfway (eqb (c .mode) 2 and c .full) (λ _. like _ refl refl refl) (λ _. like _ refl refl refl)))
-      (λ _. either Halfway (c .gate)
-      (λ _. either Halfway (eqb (c .mode) 2) (λ _. like _ refl refl refl) (λ _. like _ refl refl refl))
-      (λ _. h))
+  pulse-kept : Kept c (pulseOf d)
+  pulse-kept = subst (Kept c) (sym (pulsed d .rest)) (like _ refl refl refl refl refl)
 
-gate-at : (t : Timer) (n : ℕ) → n < 3 → (l : ℕ) → at (gatesOf t l) n ≡ gateOf (at t n) (bitOf l n)
-unfolding gatesOf
-gate-at t zero h l = refl
-gate-at t (suc zero) h l = refl
-gate-at t (suc (suc zero)) h l = refl
-gate-at t (suc (suc (suc n))) h l = absurd (omega arith)
+  gate-kept : (k : Bool) → Kept c (gateOf d k)
+  gate-kept k = subst (Kept c) (sym (gated d k)) (like _ refl refl refl refl refl)
 
-module _ (t : Timer) (n : ℕ) (h : Halfway (at t n)) where
+module _ (c : Counter) (t : Timer) (n : ℕ) (h : Kept c (at t n)) where
   abbrev W : Written → Type 0
-  W w = Halfway (at (w .timer) n)
+  W w = Kept c (at (w .timer) n)
 
   abbrev R : Got → Type 0
-  R w = Halfway (at (w .timer) n)
+  R w = Kept c (at (w .timer) n)
 
   -- A control word for it that is no mode word is a latch.
-  control-half : (x i : ℕ) → i ≡ n → (eqb i n and not (eqb (RWM x) 0)) ≡ false → Halfway (controlOf (at t i) x .counter)
+  control-kept : (x i : ℕ) → i ≡ n → (eqb i n and not (eqb (RWM x) 0)) ≡ false → Kept c (controlOf (at t i) x .counter)
   unfolding controlOf
-  control-half x i e m =
-      either (λ (a : Answer). Halfway (a .counter)) (eqb (RWM x) 0) (λ _. latch-half (at t i) (rw e h))
+  control-kept x i e m =
+      either (λ (a : Answer). Kept c (a .counter)) (eqb (RWM x) 0) (λ _. latch-kept c (at t i) (rw e h))
       (λ f. absurd (true≢false (rw (eq-eqb i n e, f) at m)))
 
-  writes-half : (p x : ℕ) → (eqb (p % 4) 3 ≡ true → modeWordFor n x ≡ false) → Halfway (at (writesOf t p x .timer) n)
+  writes-kept : (p x : ℕ) → (eqb (p % 4) 3 ≡ true → modeWordFor n x ≡ false) → Kept c (at (writesOf t p x .timer) n)
   unfolding writesOf controlsOf wroteBy
-  writes-half p x m =
+  writes-kept p x m =
       either W (eqb (p % 4) 3)
       (λ q. either W (eqb (SC x) 3) (λ _. h)
-      (λ _. put Halfway (t .counters) (SC x) n (controlOf (at t (SC x)) x .counter) blank (λ e. control-half x (SC x) e (m q)) h))
-      (λ _. put Halfway (t .counters) (p % 4) n (Ports.writeOf (at t (p % 4)) x .counter) blank (λ e. write-half (at t (p % 4)) (rw e h) x) h)
+      (λ _. put (Kept c) (t .counters) (SC x) n (controlOf (at t (SC x)) x .counter) blank (λ e. control-kept x (SC x) e (m q)) h))
+      (λ _. put (Kept c) (t .counters) (p % 4) n (Ports.writeOf (at t (p % 4)) x .counter) blank (λ e. write-kept c (at t (p % 4)) (rw e h) x) h)
 
-  reads-half : (p : ℕ) → p % 4 ≢ n → Halfway (at (readsOf t p .timer) n)
+  reads-kept : (p : ℕ) → p % 4 ≢ n → Kept c (at (readsOf t p .timer) n)
   unfolding readsOf gotBy
-  reads-half p m =
+  reads-kept p m =
       either R (eqb (p % 4) 3) (λ _. h)
-      (λ _. put Halfway (t .counters) (p % 4) n (Ports.readOf (at t (p % 4)) .counter) blank (λ e. absurd (m e)) h)
+      (λ _. put (Kept c) (t .counters) (p % 4) n (Ports.readOf (at t (p % 4)) .counter) blank (λ e. absurd (m e)) h)
 
-  gates-half : n < 3 → (l : ℕ) → Halfway (at (gatesOf t l) n)
-  gates-half k l = rw (gate-at t n k l) (gate-half (at t n) h (bitOf l n))
+  gates-kept : n < 3 → (l : ℕ) → Kept c (at (gatesOf t l) n)
+  gates-kept k l = rw (gate-at t n k l) (gate-kept c (at t n) h (bitOf l n))
 
-advances-half : (i : ℕ) (t : Timer) (c : Icu) (k n : ℕ) → n < 3 → Halfway (at t n) → Halfway (at (advancedOf i t c k .timer) n)
+advances-kept : (c : Counter) (i : ℕ) (t : Timer) (u : Icu) (k n : ℕ) → n < 3 → Kept c (at t n) → Kept c (at (advancedOf i t u k .timer) n)
 unfolding advancedOf tickOf
-advances-half i t c zero n few h = h
-advances-half i t c (suc k) n few h =
-    rw (pulse-at (advancedOf i t c k .timer) n few) (pulse-half (at (advancedOf i t c k .timer) n) (advances-half i t c k n few h))
-
-left-false : (u v : Bool) → (u or v) ≡ false → u ≡ false
-left-false true v h = h
-left-false false v h = refl
+advances-kept c i t u zero n few h = h
+advances-kept c i t u (suc k) n few h =
+    rw (pulse-at (advancedOf i t u k .timer) n few) (pulse-kept c (at (advancedOf i t u k .timer) n) (advances-kept c i t u k n few h))
 
 -- A record that is none of the three, or refused.
-step-half : (b : Board) (r : List ℕ) (status : ℕ) (t : Timer) (n : ℕ) → n < 3 → Halfway (at (b .timer) n) → Timed b r status t
+step-kept : (c : Counter) (b : Board) (r : List ℕ) (status : ℕ) (t : Timer) (n : ℕ) → n < 3 → Kept c (at (b .timer) n) → Timed b r status t
     → (eqb status 0 and asksReading n r) ≡ false
-    → Halfway (at t n)
-step-half b r status t n few h stays c = h
-step-half b r status t n few h (resets o s) c = absurd (true≢false (rw (s, o) at c))
-step-half b r status t n few h (writes o l u s) c =
-    writes-half (b .timer) n h (byte r 1) (byte r 2)
-    (λ k. let e : byte r 1 ≡ 19 = omega (arith, eqb-true (byte r 1 % 4) 3 k) in left-false (modeWordFor n (byte r 2)) false (rw (s, o, e) at c))
-step-half b r status t n few h (reads o l u s) c = reads-half (b .timer) n h (byte r 1) (λ e. eqb-false (byte r 1) (16 + n) (rw (s, o) at c) (omega arith))
-step-half b r status t n few h (sets o) c = gates-half (b .timer) n h few (byte r 2)
-step-half b r status t n few h (pulses o) c = advances-half (b .intp) (b .timer) (b .icu) (pulseCount r) n few h
+    → Kept c (at t n)
+step-kept c b r status t n few h stays a = h
+step-kept c b r status t n few h (resets o s) a = absurd (true≢false (rw (s, o) at a))
+step-kept c b r status t n few h (writes o l u s) a =
+    writes-kept c (b .timer) n h (byte r 1) (byte r 2)
+    (λ k. let e : byte r 1 ≡ 19 = omega (arith, eqb-true (byte r 1 % 4) 3 k) in left-false (modeWordFor n (byte r 2)) false (rw (s, o, e) at a))
+step-kept c b r status t n few h (reads o l u s) a =
+    reads-kept c (b .timer) n h (byte r 1) (λ e. eqb-false (byte r 1) (16 + n) (rw (s, o) at a) (omega arith))
+step-kept c b r status t n few h (sets o) a = gates-kept c (b .timer) n h few (byte r 2)
+step-kept c b r status t n few h (pulses o) a = advances-kept c (b .intp) (b .timer) (b .icu) (pulseCount r) n few h
 
-pub after-half : (b : Board) (m s : List ℕ) (n k : ℕ) → n < 3 → Halfway (at (b .timer) n) → Unread n b m s k → Halfway (at (after b m s k .board .timer) n)
+pub after-kept : (b : Board) (m s : List ℕ) (n k : ℕ) → n < 3 → Unread n b m s k → Kept (at (b .timer) n) (at (after b m s k .board .timer) n)
 unfolding after
-after-half b m s n zero few h u = h
-after-half b m s n (suc k) few h u =
+after-kept b m s n zero few u =
+    record { mode = refl; format = refl; second = refl; latched = λ q. q; latch = λ q. refl }
+after-kept b m s n (suc k) few u =
     let d = after b m s k in
-    step-half (d .board) (recordAt s k) _ _ n few (after-half b m s n k few h (λ i l. u i (omega arith))) (timed (d .board) (recordAt s k) (d .memory)) (u k (omega arith))
+    step-kept (at (b .timer) n) (d .board) (recordAt s k) _ _ n few (after-kept b m s n k few (λ i l. u i (omega arith))) (timed (d .board) (recordAt s k) (d .memory)) (u k (omega arith))
+
+-- A counter with a mode keeps it.
+pub still-set : (c d : Counter) → Kept c d → moded c ≡ true → moded d ≡ true
+unfolding moded
+still-set c d h set = ap (λ (q : ℕ). ltb q 6) (h .mode) ∙ set
 
 -- What a counter says in format 3: its low byte, and then its high byte.
 module _ (c : Counter) (set : moded c ≡ true) (both : c .format ≡ 3) where

@@ -26,6 +26,7 @@ pub mod Highest
 pub mod Counters
 pub mod TimerSteps
 pub mod Plain
+pub mod Advances
 pub mod Block
 pub mod Units
 pub mod Loads
@@ -33,6 +34,8 @@ pub mod HalfRead
 pub mod Requested
 pub mod Taken
 pub mod Taught
+pub mod Modes
+pub mod Waves
 pub mod Meant
 pub mod Worked
 pub mod Examples

@@ -3,7 +3,7 @@ use mathlib.Core.Path.{_≡_, refl, sym, subst}
 use mathlib.Core.Bool.{Bool, true, false, false≢true}
 use Prim.Native.Nat.{ℕ, _<_}
 use lib.Dec.{T}
-use Rattle.bits.specs.Choice.{_and_, every}
+use Rattle.bits.specs.Choice.{_and_, _or_, every}
 use Rattle.bits.proofs.Every.{below}
 
 pub both-left : (p q : Bool) → (p and q) ≡ true → p ≡ true
@@ -16,6 +16,14 @@ both-right false q h = absurd (false≢true h)
 
 pub both : (p q : Bool) → p ≡ true → q ≡ true → (p and q) ≡ true
 both p q h k = rw (h, k)
+
+pub left-false : (u v : Bool) → (u or v) ≡ false → u ≡ false
+left-false true v h = h
+left-false false v h = refl
+
+pub or-true : (q : Bool) → (q or true) ≡ true
+or-true true = refl
+or-true false = refl
 
 -- A test that holds.
 pub T-true : (q : Bool) → T q → q ≡ true

@@ -7,14 +7,14 @@ use Prim.Native.Nat.{ℕ, zero, suc, _/_, _%_, _≤_, _<_}
 use native.Mathlib.Omega.{arith}
 use lib.Dec.{eqb}
 use lib.ListN.{getD}
-use borrow.Author.Tests.{eq-eqb, ne-eqb}
-use Rattle.bits.specs.Choice.{if_then_else_, _and_, _or_, every}
+use borrow.Author.Tests.{eq-eqb, ne-eqb, lt-ltb}
+use Rattle.bits.specs.Choice.{if_then_else_, _and_, every}
 use Rattle.bits.specs.Bits.{bitOf, withoutOf}
 use Rattle.bits.proofs.Every.{alike}
 use Rattle.tape.specs.declared.Operation.the-variants.{Write, Read}
 use Rattle.tape.specs.declared.Decoded.{Decoded}
 use Rattle.tape.specs.declared.Decoded.the-variants.{Asked, Malformed}
-use Rattle.tape.specs.Records.{byte, unused, writable, readable, pulseCount, decodeOf}
+use Rattle.tape.specs.Records.{byte, unused, writable, readable, linesAsked, pulseCount, decodeOf}
 use Rattle.tape.specs.Answers.{answerOf}
 use Rattle.icu.specs.declared.Icu.{Icu}
 use Rattle.icu.specs.Fields.{imr-is, isr-is}
@@ -22,20 +22,18 @@ use Rattle.icu.specs.Words as IcuWords
 use Rattle.icu.specs.Words.{ready}
 use Rattle.icu.specs.Requests.{irrOf}
 use Rattle.icu.specs.Service as IcuService
-use Rattle.timer.specs.declared.Counter.{Counter}
 use Rattle.timer.specs.declared.Timer.{Timer}
-use Rattle.timer.specs.Ports.{moded}
-use Rattle.timer.specs.Pulse.{pulse0, pulse2, pulseOf}
+use Rattle.timer.specs.Pulse.{pulseOf, gateOf}
 use Rattle.timer.specs.Timer as Timers
 use Rattle.timer.specs.Timer.{at, writesOf, readsOf}
 use Rattle.dma.specs.Registers as DmaRegisters
 use Rattle.board.specs.declared.Board.{Board}
-use Rattle.board.specs.Operations.{Outcome, refused, timerWritten, timerShown, dmaWritten, dmaShown, writeOf, readOf}
+use Rattle.board.specs.Operations.{Outcome, done, refused, timerWritten, timerShown, dmaWritten, dmaShown, writeOf, readOf}
 use Rattle.board.specs.Wiring.{icu-is, lines, rewired}
 use Rattle.board.specs.Advance.{tickOf, advancedOf, advanceOf}
 use Rattle.board.specs.Step.{executeOf, blocked, outcomeOf, answeredOf, stepOf}
 use Rattle.tape.proofs.Decodes.{either}
-use Rattle.promises.specs.Records.{writing, reading, pulsing}
+use Rattle.promises.specs.Records.{writing, reading, setting, pulsing}
 use Rattle.promises.specs.Words.{Highest}
 use Rattle.promises.specs.TaughtWords.{valueOf}
 use Rattle.promises.proofs.TimerSteps.{Timed, stays, resets, writes, reads, sets, pulses, timed}
@@ -111,6 +109,15 @@ module _ (b : Board) (m : List ℕ) where
       go true = refl
       go false = refl
 
+  -- So do the levels of the gates.
+  pub gates-set : (l : ℕ) → l < 8 → stepOf b (setting 1 l) m .board .timer ≡ Timers.gatesOf (b .timer) l
+  unfolding stepOf answeredOf decodeOf unused linesAsked outcomeOf executeOf blocked rewired
+  gates-set l h = rw (lt-ltb l 8 h) (go (b .dma .serving))
+    where
+      go : (q : Bool) → (if q and false then refused 1 b else done (rewired (b .intp) (Timers.gatesOf (b .timer) l) b)) .board .timer ≡ Timers.gatesOf (b .timer) l
+      go true = refl
+      go false = refl
+
   -- With the interrupt chip ready and the bus free, a write to it and a read of it are carried out.
   module _ (free : b .dma .serving ≡ false) (set : ready (b .icu) ≡ true) where
     pub mask-written : (x : ℕ) → stepOf b (writing 1 x) m .board ≡ icu-is (imr-is x (b .icu)) b
@@ -152,31 +159,20 @@ pub finished-none : (c : Icu) → c .isr ≡ 0 → IcuWords.finished c false ≡
 unfolding IcuWords.finished
 finished-none c e = rw (eq-eqb (c .isr) 0 e)
 
--- A pending count is transferred by a pulse.
-pub transferred : (c : Counter) → moded c ≡ true → c .full ≡ true → c .pending ≡ true → pulseOf c .value ≡ c .count
-unfolding pulseOf pulse0 pulse2 moded
-transferred c h f p = go (c .full) (eqb (c .mode) 0) (eqb (c .mode) 2) f h
-  where
-    by-0 : (q : Bool) → c .pending ≡ q → q ≡ true → pulse0 c .value ≡ c .count
-    by-0 true e t = rw e
-    by-0 false e t = absurd (true≢false (sym t))
-
-    by-2 : (q : Bool) → c .pending ≡ q → q ≡ true → pulse2 c .value ≡ c .count
-    by-2 true e t = rw e
-    by-2 false e t = absurd (true≢false (sym t))
-
-    go : (w u v : Bool) → w ≡ true → (u or v) ≡ true → (if w then (if u then pulse0 c else if v then pulse2 c else c) else c) .value ≡ c .count
-    go true true v f h = by-0 (c .pending) refl p
-    go true false true f h = by-2 (c .pending) refl p
-    go true false false f h = absurd (true≢false (sym h))
-    go false u v f h = absurd (true≢false (sym f))
-
+-- A pulse and the gates reach each counter by itself.
 pub pulse-at : (t : Timer) (n : ℕ) → n < 3 → at (Timers.pulsesOf t) n ≡ pulseOf (at t n)
 unfolding Timers.pulsesOf
 pulse-at t zero h = refl
 pulse-at t (suc zero) h = refl
 pulse-at t (suc (suc zero)) h = refl
 pulse-at t (suc (suc (suc n))) h = absurd (omega arith)
+
+pub gate-at : (t : Timer) (n : ℕ) → n < 3 → (l : ℕ) → at (Timers.gatesOf t l) n ≡ gateOf (at t n) (bitOf l n)
+unfolding Timers.gatesOf
+gate-at t zero h l = refl
+gate-at t (suc zero) h l = refl
+gate-at t (suc (suc zero)) h l = refl
+gate-at t (suc (suc (suc n))) h l = absurd (omega arith)
 
 -- No write changes a counter's value.
 pub loads-nothing : (b : Board) (m : List ℕ) (p x n : ℕ) → at (stepOf b (writing p x) m .board .timer) n .value ≡ at (b .timer) n .value

@@ -4,6 +4,8 @@ use Rattle.promises.proofs.Demand1.{demand-1}
 use Rattle.promises.proofs.Demand3.{demand-3}
 use Rattle.promises.proofs.Reached.{reached}
 use Rattle.promises.proofs.Taught.{taught}
+use Rattle.promises.proofs.Modes.{modes}
+use Rattle.promises.proofs.Waves.{waves}
 use Rattle.promises.proofs.Meant.{meant}
 use Rattle.promises.proofs.Worked.{worked}
 use Rattle.promises.proofs.Examples.{examples}
@@ -15,6 +17,8 @@ promises =
       demand-3 = demand-3;
       reached = reached;
       taught = taught;
+      modes = modes;
+      waves = waves;
       meant = meant;
       worked = worked;
       examples = examples;

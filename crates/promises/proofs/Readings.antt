@@ -2,7 +2,7 @@
 use mathlib.Core.Path.{_≡_, refl, sym, ap, _∙_, subst}
 use mathlib.Core.List.{List, [], _∷_}
 use mathlib.Core.Bool.{Bool, true, false, not}
-use Prim.Native.Nat.{ℕ, _+_, _*_, _/_, _%_, _≤_, _<_}
+use Prim.Native.Nat.{ℕ, zero, suc, _+_, _*_, _/_, _%_, _≤_, _<_}
 use native.Mathlib.Nat.{mod-eq-of-lt}
 use native.Mathlib.Omega.{arith}
 use lib.Dec.{eqb, ltb, leb}
@@ -16,12 +16,15 @@ use Rattle.tape.specs.Records.{unused, icuPort, timerPort, dmaPort, writable, r
 use Rattle.icu.specs.Words.{ready}
 use Rattle.timer.specs.declared.Counter.{Counter}
 use Rattle.timer.specs.declared.Timer.{Timer}
-use Rattle.timer.specs.Ports.{CM, moded}
+use Rattle.timer.specs.Modes.{moded}
+use Rattle.timer.specs.Ports.{sizeOf}
 use Rattle.timer.specs.Timer.{at}
+use Rattle.timer.proofs.Pulses.{by-mode}
 use Rattle.dma.specs.Registers as Registers
 use Rattle.board.specs.declared.Board.{Board}
 use Rattle.board.specs.Operations.{a0}
 use Rattle.board.specs.Step.{stepOf}
+use Rattle.tape.proofs.Decodes.{either}
 use Rattle.promises.specs.Table as Table
 use Rattle.promises.specs.Table.{among, uses, toWrite, toRead}
 use Rattle.promises.proofs.Logic.{both-left, both-right}
@@ -121,18 +124,39 @@ three-of : (p q w : Bool) → (p or q or w or false) ≡ (p or q or w)
 three-of true q w = refl
 three-of false q w = two-of q w
 
--- A counter with no mode, and a chip that no IW1 has started.
+-- A counter with no mode.
 same-modeless : (t : Timer) (n : ℕ) → Table.modeless t n ≡ Ruled.modeless t n
-unfolding among moded
-same-modeless t n = ap not (two-of (eqb (at t n .mode) 0) (eqb (at t n .mode) 2))
+unfolding among moded every allBelow
+same-modeless t n = ap not (six-modes (at t n .mode))
+  where
+    six-modes : (m : ℕ) → among m (0 ∷ 1 ∷ 2 ∷ 3 ∷ 4 ∷ 5 ∷ []) ≡ ltb m 6
+    six-modes m = go (ltb m 6) refl
+      where
+        go : (q : Bool) → ltb m 6 ≡ q → among m (0 ∷ 1 ∷ 2 ∷ 3 ∷ 4 ∷ 5 ∷ []) ≡ q
+        go true q = alike (λ m. among m (0 ∷ 1 ∷ 2 ∷ 3 ∷ 4 ∷ 5 ∷ [])) (λ m. ltb m 6) 6 tt m (ltb-true m 6 q) ∙ q
+        go false q = past 6 m (0 ∷ 1 ∷ 2 ∷ 3 ∷ 4 ∷ 5 ∷ []) (ltb-false m 6 q) refl
 
--- The built modes of the timer; the bits of device control and of mode control.
-same-mode : (x : ℕ) → not (among (x / 2 % 8) (0 ∷ 2 ∷ 6 ∷ [])) ≡ (not (eqb (CM x) 0) and not (eqb (CM x % 4) 2))
-unfolding among every
-same-mode x = alike (λ m. not (among m (0 ∷ 2 ∷ 6 ∷ []))) (λ m. not (eqb m 0) and not (eqb (m % 4) 2)) 8 tt (x / 2 % 8) (omega arith)
+-- A count below the minimum is 1, in mode 2 or 3.
+pub too-small : (c : Counter) (n : ℕ) → Ruled.tooSmall c n ≡ (among (c .mode) (2 ∷ 3 ∷ []) and eqb n 1)
+unfolding among
+too-small c n =
+    by-mode (λ m q. ltb (sizeOf n) (q .least) ≡ (among m (2 ∷ 3 ∷ []) and eqb n 1)) below-1 below-1 below-2 below-2 below-1 below-1
+    (λ m l. rw (ne-eqb m 2 (omega arith), ne-eqb m 3 (omega arith)) below-1)
+    (c .mode)
+  where
+    below-1 : ltb (sizeOf n) 1 ≡ false
+    below-1 = either (λ (k : ℕ). ltb k 1 ≡ false) (eqb n 0) (λ _. refl) (λ z. le-ltb n 1 (omega (arith, eqb-false n 0 z)))
 
-pub same-control : (x : ℕ) → Table.unbuiltControl x ≡ Ruled.unbuiltControl x
-same-control x = ap (λ (q : Bool). eqb (x / 64) 3 or (not (eqb (x / 16 % 4) 0) and (eqb (x % 2) 1 or q))) (same-mode x)
+    below-2 : ltb (sizeOf n) 2 ≡ eqb n 1
+    below-2 = go n
+      where
+        go : (k : ℕ) → ltb (sizeOf k) 2 ≡ eqb k 1
+        go zero = refl
+        go (suc zero) = refl
+        go (suc (suc k)) = by (suc (suc k)) (omega arith)
+          where
+            by : (i : ℕ) → 2 ≤ i → ltb (sizeOf i) 2 ≡ eqb i 1
+            by i l = rw (ne-eqb i 0 (omega arith), ne-eqb i 1 (omega arith), le-ltb i 2 l)
 
 -- Device control, by the low byte.
 abbrev otherThanD4D2 : ℕ → Bool
@@ -239,16 +263,20 @@ module _ (b : Board) (x : ℕ) where
 
   -- Row 6.
   same-one : (c : Counter) → Table.completesOne c x ≡ Ruled.completesOne c x
-  same-one c = ap (λ (q : Bool). eqb (c .mode) 2 and (if eqb (c .format) 1 then eqb x 1 else q)) (go (eqb (c .format) 2))
+  same-one c =
+      rw (too-small c x, too-small c (x * 256), too-small c (c .low + x * 256), ne-eqb (x * 256) 1 (omega arith))
+      (go (among (c .mode) (2 ∷ 3 ∷ [])) (eqb (c .format) 1) (eqb (c .format) 2) (c .half))
     where
-      even : eqb (x * 256) 1 ≡ false
-      even = ne-eqb (x * 256) 1 (omega arith)
-
-      go : (q : Bool)
-          → (not q and c .half and eqb (c .low + x * 256) 1)
-          ≡ (if q then eqb (x * 256) 1 else c .half and eqb (c .low + x * 256) 1)
-      go true = sym even
-      go false = refl
+      go : (m f g h : Bool)
+          → (m and (if f then eqb x 1 else not g and h and eqb (c .low + x * 256) 1))
+          ≡ (if f then m and eqb x 1 else if g then m and false else h and m and eqb (c .low + x * 256) 1)
+      go true true g h = refl
+      go true false true h = refl
+      go true false false h = refl
+      go false true g h = refl
+      go false false true h = refl
+      go false false false true = refl
+      go false false false false = refl
 
   abbrev One : ℕ → Type 0
   One p =
@@ -288,7 +316,7 @@ module _ (x : ℕ) where
       (λ c. at-port Unbuilt p 16 refl
       (λ d. at-port Unbuilt p 17 refl
       (λ e. at-port Unbuilt p 18 refl
-      (λ f. at-port Unbuilt p 19 (same-control x)
+      (λ f. at-port Unbuilt p 19 refl
       (λ g. at-port Unbuilt p 32 refl
       (λ p32. at-port Unbuilt p 40 (same-device x)
       (λ p40. at-port Unbuilt p 41 refl

@@ -10,7 +10,8 @@ use Rattle.icu.specs.declared.Icu.{Icu}
 use Rattle.icu.specs.Words.{ready, setsExceptional}
 use Rattle.timer.specs.declared.Counter.{Counter}
 use Rattle.timer.specs.declared.Timer.{Timer}
-use Rattle.timer.specs.Ports.{SC, RWM, CM, BCD, moded}
+use Rattle.timer.specs.Modes.{modeOf, moded}
+use Rattle.timer.specs.Ports.{SC, RWM, BCD, sizeOf}
 use Rattle.timer.specs.Timer.{at}
 use Rattle.dma.specs.Registers.{unbuiltMode}
 use Rattle.board.specs.declared.Board.{Board}
@@ -79,10 +80,9 @@ abbrev pub unbuiltWord : Bool → ℕ → Bool
 unbuiltWord high x =
     not high and (if bitOf x 4 then not (bitOf x 1) else bitOf x 3 and (bitOf x 2 or setsExceptional x))
 
--- Row 4, the timer's control word: counter 11; otherwise, unless a latch, BCD, or a mode other than 000 and x10.
+-- Row 4, the timer's control word: counter 11; otherwise, unless a latch, BCD.
 abbrev pub unbuiltControl : ℕ → Bool
-unbuiltControl x =
-    eqb (SC x) 3 or (not (eqb (RWM x) 0) and (eqb (BCD x) 1 or (not (eqb (CM x) 0) and not (eqb (CM x % 4) 2))))
+unbuiltControl x = eqb (SC x) 3 or (not (eqb (RWM x) 0) and eqb (BCD x) 1)
 
 -- Row 4, the DMA chip: register 0 with D1=1; other bits than D4 and D2 in 8, any in 9; in A mode 11, direction 11, D1 or D0; C, D and E.
 abbrev pub unbuiltRegister : ℕ → ℕ → Bool
@@ -106,13 +106,15 @@ notBuilt b r =
 unfoldable pub intLow : Board → List ℕ → Bool
 intLow b r = eqb (op r) 4 and not (int b)
 
--- Row 6: a count byte that completes a count of 1 in mode 2.
+-- Row 6: a count byte that completes a count below the mode's minimum.
+abbrev pub tooSmall : Counter → ℕ → Bool
+tooSmall c n = ltb (sizeOf n) (modeOf (c .mode) .least)
+
 abbrev pub completesOne : Counter → ℕ → Bool
 completesOne c x =
-    eqb (c .mode) 2
-    and (if eqb (c .format) 1 then eqb x 1
-    else if eqb (c .format) 2 then eqb (x * 256) 1
-    else c .half and eqb (c .low + x * 256) 1)
+    if eqb (c .format) 1 then tooSmall c x
+    else if eqb (c .format) 2 then tooSmall c (x * 256)
+    else c .half and tooSmall c (c .low + x * 256)
 
 unfoldable pub countsOne : Board → List ℕ → Bool
 countsOne b r =

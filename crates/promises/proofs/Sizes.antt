@@ -9,8 +9,8 @@ use lib.Bits.{and-le-l, or-lt}
 use lib.ListN.{getD, set, take, length, length-set}
 use lib.Seq.{getD-set-same, getD-set-other, set-out}
 use borrow.Author.Tests.{eqb-true, eqb-false, ltb-true, ltb-false}
-use Rattle.bits.specs.Choice.{if_then_else_, _and_}
-use Rattle.bits.specs.Bits.{bitOf, less, maskedOf}
+use Rattle.bits.specs.Choice.{_and_}
+use Rattle.bits.specs.Bits.{bitOf, maskedOf}
 use Rattle.tape.specs.declared.Operation.the-variants.{Reset, Write, Read, Intp, Gates, Requests, Acknowledge, Advance, Cycle}
 use Rattle.tape.specs.declared.Decoded.{Decoded}
 use Rattle.tape.specs.Records.{byte, decodeOf, pulseCount}
@@ -25,10 +25,10 @@ use Rattle.timer.specs.declared.Counter.{Counter}
 use Rattle.timer.specs.declared.Timer.{Timer}
 use Rattle.timer.specs.declared.Written.{Written}
 use Rattle.timer.specs.declared.Got.{Got}
-use Rattle.timer.specs.Fields.{value-is, out-is}
+use Rattle.timer.specs.Modes.{moded}
 use Rattle.timer.specs.Ports as Ports
-use Rattle.timer.specs.Ports.{Answer, SC, RWM, CM, BCD, moded, modeSet, modeWord, latchWord, controlOf, completed, begun}
-use Rattle.timer.specs.Pulse.{pulse0, pulse2, pulseOf, gateOf}
+use Rattle.timer.specs.Ports.{Answer, SC, RWM, BCD, modeSet, modeWord, latchWord, controlOf}
+use Rattle.timer.specs.Pulse.{pulseOf, gateOf}
 use Rattle.timer.specs.Timer.{blank, at, three, resetsOf, wroteBy, gotBy, controlsOf, writesOf, readsOf, pulsesOf, gatesOf}
 use Rattle.dma.specs.declared.Channel.{Channel}
 use Rattle.dma.specs.declared.Dma.{Dma}
@@ -48,6 +48,8 @@ use Rattle.intake.specs.Records.{restAt}
 use Rattle.intake.specs.Feed.{bytesOf, countOf, taken, fedOf}
 use Rattle.promises.specs.Reached.{Bytes, Reached, unfed, fed, Typed}
 use Rattle.promises.proofs.Logic.{both-left, both-right}
+use Rattle.timer.proofs.Pulses.{Counts, stays, one-less, two-less, loads, loads-even, pulsed, gated, counted, begins}
+use Rattle.promises.proofs.Ruled.{tooSmall}
 use Rattle.promises.proofs.IcuKept.{with-byte, without-byte}
 use Rattle.promises.proofs.Change.{moved-mode}
 use Rattle.promises.proofs.BoardKept.{reached-held}
@@ -142,24 +144,19 @@ module _ (c : Counter) (s : SmallCounter c) where
   control-small w =
       either A (eqb (RWM w) 0)
       (λ _. either A (moded c) (λ _. either A (c .latched) (λ _. s) (λ _. (s .0, s .1, s .0, s .3))) (λ _. s))
-      (λ _. either A (eqb (BCD w) 1) (λ _. s)
-      (λ _. either A (eqb (CM w) 0) (λ _. s) (λ _. either A (eqb (CM w % 4) 2) (λ _. s) (λ _. s))))
+      (λ _. either A (eqb (BCD w) 1) (λ _. s) (λ _. s))
 
   count-small : (n : ℕ) → n < 65536 → A (Ports.countOf c n)
-  unfolding Ports.countOf completed
-  count-small n h =
-      either A (eqb (c .mode) 2 and eqb n 1) (λ _. s)
-      (λ _. either SmallCounter (eqb (c .mode) 0) (λ _. (s .0, h, s .2, s .3))
-      (λ _. either SmallCounter (c .full) (λ _. (s .0, h, s .2, s .3)) (λ _. (s .0, h, s .2, s .3))))
+  unfolding Ports.countOf
+  count-small n h = either A (tooSmall c n) (λ _. s) (λ _. subst SmallCounter (sym (counted c n)) (s .0, h, s .2, s .3))
 
   write-small : (x : ℕ) → x < 256 → A (Ports.writeOf c x)
-  unfolding Ports.writeOf begun
+  unfolding Ports.writeOf
   write-small x h =
       either A (moded c)
       (λ _. either A (eqb (c .format) 1) (λ _. count-small x (omega arith))
       (λ _. either A (eqb (c .format) 2) (λ _. count-small (x * 256) (omega arith))
-      (λ _. either A (c .half) (λ _. count-small (c .low + x * 256) (omega (arith, s .3)))
-      (λ _. either SmallCounter (eqb (c .mode) 0) (λ _. (s .0, s .1, s .2, h)) (λ _. (s .0, s .1, s .2, h))))))
+      (λ _. either A (c .half) (λ _. count-small (c .low + x * 256) (omega (arith, s .3))) (λ _. subst SmallCounter (sym (begins c x)) (s .0, s .1, s .2, h)))))
       (λ _. s)
 
   read-small : A (Ports.readOf c)
@@ -170,42 +167,20 @@ module _ (c : Counter) (s : SmallCounter c) where
       (λ _. either A (eqb (c .format) 2) (λ _. s) (λ _. either A (c .second) (λ _. s) (λ _. s))))
       (λ _. s)
 
-  load : (k : Bool) → SmallCounter (if k then out-is true (value-is (c .count) c) else value-is (c .count) c)
-  load true = (s .1, s .1, s .2, s .3)
-  load false = (s .1, s .1, s .2, s .3)
-
-  fall : (k : Bool) (q : Bool) → SmallCounter (if q then out-is k (value-is (less (c .value)) c) else value-is (less (c .value)) c)
-  fall k true = (omega arith, s .1, s .2, s .3)
-  fall k false = (omega arith, s .1, s .2, s .3)
-
-  pulse0-small : SmallCounter (pulse0 c)
-  unfolding pulse0
-  pulse0-small =
-      either SmallCounter (c .pending) (λ _. load false)
-      (λ _. either SmallCounter (c .half) (λ _. s) (λ _. either SmallCounter (c .gate) (λ _. fall true (eqb (less (c .value)) 0)) (λ _. s)))
-
-  pulse2-small : SmallCounter (pulse2 c)
-  unfolding pulse2
-  pulse2-small =
-      either SmallCounter (c .pending) (λ _. load false)
-      (λ _. either SmallCounter (c .trigger) (λ _. load true)
-      (λ _. either SmallCounter (c .gate)
-      (λ _. either SmallCounter (eqb (c .value) 1) (λ _. load true) (λ _. fall false (eqb (less (c .value)) 1)))
-      (λ _. s)))
+  counts-small : (v : ℕ) → Counts c v → v < 65536
+  counts-small v stays = s .0
+  counts-small v one-less = omega arith
+  counts-small v two-less = omega arith
+  counts-small v loads = s .1
+  counts-small v loads-even = omega (arith, s .1)
 
   pulse-small : SmallCounter (pulseOf c)
-  unfolding pulseOf
   pulse-small =
-      either SmallCounter (c .full)
-      (λ _. either SmallCounter (eqb (c .mode) 0) (λ _. pulse0-small) (λ _. either SmallCounter (eqb (c .mode) 2) (λ _. pulse2-small) (λ _. s)))
-      (λ _. s)
+      let p = pulsed c in
+      subst SmallCounter (sym (p .rest)) (counts-small (pulseOf c .value) (p .value), s .1, s .2, s .3)
 
   gate-small : (k : Bool) → SmallCounter (gateOf c k)
-  unfolding gateOf
-  gate-small k =
-      either SmallCounter k
-      (λ _. either SmallCounter (c .gate) (λ _. s) (λ _. either SmallCounter (eqb (c .mode) 2 and c .full) (λ _. s) (λ _. s)))
-      (λ _. either SmallCounter (c .gate) (λ _. either SmallCounter (eqb (c .mode) 2) (λ _. s) (λ _. s)) (λ _. s))
+  gate-small k = subst SmallCounter (sym (gated c k)) s
 
 -- All of a list, and what stands past its end, with one of them replaced.
 module _ {A : Type 0} (Q : A → Type 0) (past : A) where

@@ -25,7 +25,8 @@ use Rattle.timer.specs.declared.Counter.{Counter}
 use Rattle.timer.specs.declared.Timer.{Timer}
 use Rattle.timer.specs.Fields.{latched-is, latch-is, second-is}
 use Rattle.timer.specs.Ports as Ports
-use Rattle.timer.specs.Ports.{SC, RWM, CM, BCD, moded, held}
+use Rattle.timer.specs.Modes.{moded}
+use Rattle.timer.specs.Ports.{SC, RWM, CM, BCD, modeIn, held}
 use Rattle.timer.specs.Timer.{at, writesOf, readsOf, controlsOf, wroteBy, gotBy}
 use Rattle.dma.specs.declared.Dma.{Dma}
 use Rattle.dma.specs.declared.Written.{Written as DmaWritten}
@@ -41,7 +42,7 @@ use Rattle.board.specs.Step.{executeOf, blocked, outcomeOf, answeredOf, stepOf}
 use Rattle.tape.proofs.Decodes.{either, Decodes, malformed, reset, write, read, intp, gates, requests, acknowledge, advance, cycle, decodes}
 use Rattle.promises.proofs.Logic.{both-left, both-right}
 use Rattle.promises.proofs.Ruled as Ruled
-use Rattle.promises.proofs.Ruled.{formed, levelsFit, outOfTurn, notBuilt, intLow, countsOne, due, earlyWord, unbuiltWord, modeless, earlyCount, unbuiltControl, unbuiltRegister, completesOne}
+use Rattle.promises.proofs.Ruled.{formed, levelsFit, outOfTurn, notBuilt, intLow, countsOne, due, earlyWord, unbuiltWord, modeless, earlyCount, unbuiltControl, unbuiltRegister, tooSmall, completesOne}
 
 -- The three groups of ports.
 pub data Port (p : ℕ) : Type 0 where
@@ -172,30 +173,26 @@ icu-acknowledge c l = go (eqb (c .stage) 3) (intOf c l) (c .vector)
 control-status : (c : Counter) (x : ℕ)
     → Ports.controlOf c x .status
     ≡ (if eqb (RWM x) 0 and not (moded c) then 3
-    else if not (eqb (RWM x) 0) and (eqb (BCD x) 1 or (not (eqb (CM x) 0) and not (eqb (CM x % 4) 2))) then 4
+    else if not (eqb (RWM x) 0) and eqb (BCD x) 1 then 4
     else 0)
 unfolding Ports.controlOf Ports.latchWord Ports.modeWord
-control-status c x = go (eqb (RWM x) 0) (moded c) (c .latched) (eqb (BCD x) 1) (eqb (CM x) 0) (eqb (CM x % 4) 2)
+control-status c x = go (eqb (RWM x) 0) (moded c) (c .latched) (eqb (BCD x) 1)
   where
-    go : (u v l w y z : Bool)
+    go : (u v l w : Bool)
         → (if u then
         (if v then (if l then Ports.done c else Ports.done (latched-is true (latch-is (c .value) c))) else Ports.refused 3 c)
         else if w then Ports.refused 4 c
-        else if y then Ports.done (Ports.modeSet 0 (RWM x) c)
-        else if z then Ports.done (Ports.modeSet 2 (RWM x) c)
-        else Ports.refused 4 c) .status
-        ≡ (if u and not v then 3 else if not u and (w or (not y and not z)) then 4 else 0)
-    go true true true w y z = refl
-    go true true false w y z = refl
-    go true false l w y z = refl
-    go false v l true y z = refl
-    go false v l false true z = refl
-    go false v l false false true = refl
-    go false v l false false false = refl
+        else Ports.done (Ports.modeSet (modeIn (CM x)) (RWM x) c)) .status
+        ≡ (if u and not v then 3 else if not u and w then 4 else 0)
+    go true true true w = refl
+    go true true false w = refl
+    go true false l w = refl
+    go false v l true = refl
+    go false v l false = refl
 
-count-status : (c : Counter) (n : ℕ) → Ports.countOf c n .status ≡ (if eqb (c .mode) 2 and eqb n 1 then 6 else 0)
+count-status : (c : Counter) (n : ℕ) → Ports.countOf c n .status ≡ (if tooSmall c n then 6 else 0)
 unfolding Ports.countOf
-count-status c n = go (eqb (c .mode) 2 and eqb n 1)
+count-status c n = go (tooSmall c n)
   where
     go : (u : Bool) → (if u then Ports.refused 6 c else Ports.done (Ports.completed c n)) .status ≡ (if u then 6 else 0)
     go true = refl
@@ -205,13 +202,6 @@ write-status : (c : Counter) (x : ℕ) → Ports.writeOf c x .status ≡ (if not
 unfolding Ports.writeOf
 write-status c x = go (moded c) (eqb (c .format) 1) (eqb (c .format) 2) (c .half)
   where
-    m : Bool
-    m = eqb (c .mode) 2
-
-    none : (u : Bool) → _≡_ {A = ℕ} 0 (if u and false then 6 else 0)
-    none true = refl
-    none false = refl
-
     go : (v f g h : Bool)
         → (if v then
         (if f then Ports.countOf c x
@@ -220,15 +210,15 @@ write-status c x = go (moded c) (eqb (c .format) 1) (eqb (c .format) 2) (c .half
         else Ports.done (Ports.begun c x))
         else Ports.refused 3 c) .status
         ≡ (if not v then 3
-        else if m and (if f then eqb x 1 else if g then eqb (x * 256) 1 else h and eqb (c .low + x * 256) 1) then 6
+        else if (if f then tooSmall c x else if g then tooSmall c (x * 256) else h and tooSmall c (c .low + x * 256)) then 6
         else 0)
     go true true g h = count-status c x
     go true false true h = count-status c (x * 256)
     go true false false true = count-status c (c .low + x * 256)
-    go true false false false = none m
+    go true false false false = refl
     go false f g h = refl
 
-read-status : (c : Counter) → Ports.readOf c .status ≡ (if not (moded c) then 3 else 0)
+pub read-status : (c : Counter) → Ports.readOf c .status ≡ (if not (moded c) then 3 else 0)
 unfolding Ports.readOf
 read-status c = go (moded c) (eqb (c .format) 1) (eqb (c .format) 2) (c .second)
   where
@@ -258,7 +248,7 @@ timer-write t a x = go (eqb (a % 4) 3) (eqb (SC x) 3)
     go : (u v : Bool)
         → (if u then (if v then record { status = 4; timer = t } else wroteBy t (SC x) (Ports.controlOf (at t (SC x)) x)) else wroteBy t (a % 4) (Ports.writeOf (at t (a % 4)) x)) .status
         ≡ (if (if u then not v and eqb (RWM x) 0 and modeless t (SC x) else modeless t (a % 4)) then 3
-        else if u and (v or (not (eqb (RWM x) 0) and (eqb (BCD x) 1 or (not (eqb (CM x) 0) and not (eqb (CM x % 4) 2))))) then 4
+        else if u and (v or (not (eqb (RWM x) 0) and eqb (BCD x) 1)) then 4
         else if not u and completesOne (at t (a % 4)) x then 6
         else 0)
     go true true = refl

@@ -1,21 +1,24 @@
 -- The timer stays in its ranges.
-use mathlib.Core.Path.{_≡_, refl}
+use mathlib.Core.Path.{_≡_, refl, ap}
 use mathlib.Core.Bool.{Bool, true}
 use Prim.Native.Nat.{ℕ, zero, suc, _+_, _*_, _%_}
 use native.Mathlib.Omega.{arith}
-use lib.Dec.{eqb}
-use borrow.Author.Tests.{lt-ltb}
-use Rattle.bits.specs.Choice.{_and_}
-use Rattle.bits.specs.Bits.{bitOf, less}
+use lib.Dec.{eqb, ltb}
+use borrow.Author.Tests.{lt-ltb, ltb-true}
+use Rattle.bits.specs.Choice.{_or_}
+use Rattle.bits.specs.Bits.{bitOf}
 use Rattle.timer.specs.declared.Counter.{Counter}
 use Rattle.timer.specs.declared.Timer.{Timer}
 use Rattle.timer.specs.declared.Written.{Written}
 use Rattle.timer.specs.declared.Got.{Got}
-use Rattle.timer.specs.Ports.{resetOf, Answer, SC, RWM, CM, BCD, moded, modeSet, modeWord, latchWord, controlOf, completed, countOf, begun, writeOf, readOf}
-use Rattle.timer.specs.Pulse.{pulse0, pulse2, pulseOf, gateOf}
+use Rattle.timer.specs.Modes.{moded}
+use Rattle.timer.specs.Ports.{resetOf, Answer, SC, RWM, CM, BCD, modeIn, modeSet, modeWord, latchWord, controlOf, countOf, begun, writeOf, readOf}
+use Rattle.timer.specs.Pulse.{pulseOf, gateOf}
 use Rattle.timer.specs.Timer.{blank, at, three, resetsOf, wroteBy, gotBy, controlsOf, writesOf, readsOf, pulsesOf, gatesOf}
+use Rattle.timer.proofs.Pulses.{pulsed, gated, counted, begins}
 use Rattle.intake.specs.Ranges.{counterGood, timerGood}
 use Rattle.tape.proofs.Decodes.{either}
+use Rattle.promises.proofs.Ruled.{tooSmall}
 use Rattle.promises.proofs.Lists.{put}
 
 -- One counter.
@@ -26,34 +29,35 @@ module _ (c : Counter) (g : Good c) where
   abbrev P : Answer → Type 0
   P a = Good (a .counter)
 
-  moded-0 : (w : ℕ) → Good (modeSet 0 (RWM w) c)
+  -- D3-D1 name one of the six modes.
+  moded-good : (w : ℕ) → Good (modeSet (modeIn (CM w)) (RWM w) c)
   unfolding counterGood modeSet
-  moded-0 w = rw (lt-ltb (RWM w) 4 (omega arith))
+  moded-good w =
+      rw (lt-ltb (RWM w) 4 (omega arith))
+      (either (λ (m : ℕ). (ltb m 6 or eqb m 255) ≡ true) (ltb (CM w % 4) 2)
+      (λ l. rw (lt-ltb (CM w) 6 (omega (arith, ltb-true (CM w % 4) 2 l))))
+      (λ _. rw (lt-ltb (CM w % 4) 6 (omega arith))))
 
-  moded-2 : (w : ℕ) → Good (modeSet 2 (RWM w) c)
-  unfolding counterGood modeSet
-  moded-2 w = rw (lt-ltb (RWM w) 4 (omega arith))
+  -- The same counter but for fields that do not matter here.
+  like : (d : Counter) → d .mode ≡ c .mode → d .format ≡ c .format → Good d
+  unfolding counterGood
+  like d e f = rw (e, f) g
 
   control-good : (w : ℕ) → P (controlOf c w)
-  unfolding controlOf latchWord modeWord counterGood
+  unfolding controlOf latchWord modeWord
   control-good w =
       either P (eqb (RWM w) 0)
-      (λ _. either P (moded c) (λ _. either P (c .latched) (λ _. g) (λ _. g)) (λ _. g))
-      (λ _. either P (eqb (BCD w) 1) (λ _. g)
-      (λ _. either P (eqb (CM w) 0) (λ _. moded-0 w)
-      (λ _. either P (eqb (CM w % 4) 2) (λ _. moded-2 w) (λ _. g))))
-
-  completed-good : (n : ℕ) → Good (completed c n)
-  unfolding completed counterGood
-  completed-good n = either Good (eqb (c .mode) 0) (λ _. g) (λ _. either Good (c .full) (λ _. g) (λ _. g))
+      (λ _. either P (moded c) (λ _. either P (c .latched) (λ _. g) (λ _. like _ refl refl)) (λ _. g))
+      (λ _. either P (eqb (BCD w) 1) (λ _. g) (λ _. moded-good w))
 
   count-good : (n : ℕ) → P (countOf c n)
   unfolding countOf
-  count-good n = either P (eqb (c .mode) 2 and eqb n 1) (λ _. g) (λ _. completed-good n)
+  count-good n =
+      either P (tooSmall c n) (λ _. g)
+      (λ _. like _ (ap (λ (d : Counter). d .mode) (counted c n)) (ap (λ (d : Counter). d .format) (counted c n)))
 
   begun-good : (x : ℕ) → Good (begun c x)
-  unfolding begun counterGood
-  begun-good x = either Good (eqb (c .mode) 0) (λ _. g) (λ _. g)
+  begun-good x = like _ (ap (λ (d : Counter). d .mode) (begins c x)) (ap (λ (d : Counter). d .format) (begins c x))
 
   write-good : (x : ℕ) → P (writeOf c x)
   unfolding writeOf
@@ -65,37 +69,19 @@ module _ (c : Counter) (g : Good c) where
       (λ _. g)
 
   read-good : P (readOf c)
-  unfolding readOf counterGood
+  unfolding readOf
   read-good =
       either P (moded c)
-      (λ _. either P (eqb (c .format) 1) (λ _. g)
-      (λ _. either P (eqb (c .format) 2) (λ _. g)
-      (λ _. either P (c .second) (λ _. g) (λ _. g))))
+      (λ _. either P (eqb (c .format) 1) (λ _. like _ refl refl)
+      (λ _. either P (eqb (c .format) 2) (λ _. like _ refl refl)
+      (λ _. either P (c .second) (λ _. like _ refl refl) (λ _. like _ refl refl))))
       (λ _. g)
 
   pulse-good : Good (pulseOf c)
-  unfolding pulseOf pulse0 pulse2 counterGood
-  pulse-good =
-      either Good (c .full)
-      (λ _. either Good (eqb (c .mode) 0)
-      (λ _. either Good (c .pending) (λ _. g)
-      (λ _. either Good (c .half) (λ _. g)
-      (λ _. either Good (c .gate) (λ _. either Good (eqb (less (c .value)) 0) (λ _. g) (λ _. g)) (λ _. g))))
-      (λ _. either Good (eqb (c .mode) 2)
-      (λ _. either Good (c .pending) (λ _. g)
-      (λ _. either Good (c .trigger) (λ _. g)
-      (λ _. either Good (c .gate)
-      (λ _. either Good (eqb (c .value) 1) (λ _. g) (λ _. either Good (eqb (less (c .value)) 1) (λ _. g) (λ _. g)))
-      (λ _. g))))
-      (λ _. g)))
-      (λ _. g)
+  pulse-good = like _ (ap (λ (d : Counter). d .mode) (pulsed c .rest)) (ap (λ (d : Counter). d .format) (pulsed c .rest))
 
   gate-good : (k : Bool) → Good (gateOf c k)
-  unfolding gateOf counterGood
-  gate-good k =
-      either Good k
-      (λ _. either Good (c .gate) (λ _. g) (λ _. either Good (eqb (c .mode) 2 and c .full) (λ _. g) (λ _. g)))
-      (λ _. either Good (c .gate) (λ _. either Good (eqb (c .mode) 2) (λ _. g) (λ _. g)) (λ _. g))
+  gate-good k = like _ (ap (λ (d : Counter). d .mode) (gated c k)) (ap (λ (d : Counter). d .format) (gated c k))
 
 -- All three. What stands past the last is good too.
 abbrev pub Fine : Timer → Type 0

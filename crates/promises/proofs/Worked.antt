@@ -2,7 +2,7 @@
 use mathlib.Core.Path.{_≡_, refl}
 use mathlib.Core.List.{[], _∷_, _++_}
 use mathlib.Core.Bool.{true, false}
-use Prim.Native.Nat.{ℕ, zero, suc, _≤_, _<_}
+use Prim.Native.Nat.{ℕ, zero, suc, _<_}
 use native.Mathlib.Omega.{arith}
 use lib.Dec.{eqb}
 use Rattle.bits.specs.Choice.{every}
@@ -14,11 +14,13 @@ use Rattle.promises.specs.Records.{pulsing, cycling, joined}
 use Rattle.promises.specs.Table.{formed, uses, among}
 use Rattle.promises.specs.Words.{answerAt, answersIn, unitsOf, Calm, asks}
 use Rattle.promises.specs.Reached.{Reached, unfed, fed}
-use Rattle.promises.specs.TaughtWords.{low-byte, reloadsNext, Unread, readAt, plainCycle, Alone}
-use Rattle.promises.specs.Worked.{setup, further, memory, board, timing, dividing, pulses, halved, between, requesting, waiting, serving, cycles, Worked}
+use Rattle.promises.specs.TaughtWords.{low-byte, reloadsNext, Clocks, a-pulse, the-gates, Unread, readAt, plainCycle, Alone}
+use Rattle.promises.specs.Waves.{Loaded}
+use Rattle.promises.specs.Worked.{setup, further, memory, board, timing, dividing, pulses, armed, started, retriggering, starting, halved, between, latched, busy, requesting, waiting, serving, cycles, Worked}
 use Rattle.promises.proofs.Opened.{rules}
 use Rattle.promises.proofs.Sizes.{areBytes, small-bytes}
 use Rattle.promises.proofs.Taught.{taught}
+use Rattle.promises.proofs.Modes.{modes}
 
 calm : Calm board memory further 5
 unfolding rules setup further memory board answerAt answersIn unitsOf joined
@@ -29,24 +31,55 @@ calm (suc (suc (suc zero))) h = refl
 calm (suc (suc (suc (suc zero)))) h = refl
 calm (suc (suc (suc (suc (suc i))))) h = absurd (omega arith)
 
-each : (i : ℕ) → i ≤ 2 → recordAt pulses i ≡ pulsing
+each : (i : ℕ) → i < 2 → Clocks (recordAt pulses i)
 unfolding rules pulses joined
-each zero h = refl
-each (suc zero) h = refl
-each (suc (suc zero)) h = refl
-each (suc (suc (suc i))) h = absurd (omega arith)
+each zero h = a-pulse
+each (suc zero) h = a-pulse
+each (suc (suc i)) h = absurd (omega arith)
 
-none : (i : ℕ) → i < 2 → reloadsNext (at (after dividing [] pulses i .board .timer) 0) ≡ false
+none : (i : ℕ) → i < 2 → recordAt pulses i ≡ pulsing → reloadsNext (at (after dividing [] pulses i .board .timer) 0) ≡ false
 unfolding rules dividing pulses joined
-none zero h = refl
-none (suc zero) h = refl
-none (suc (suc i)) h = absurd (omega arith)
+none zero h e = refl
+none (suc zero) h e = refl
+none (suc (suc i)) h e = absurd (omega arith)
+
+clocked : (i : ℕ) → i < 3 → Clocks (recordAt retriggering i)
+unfolding rules retriggering joined
+clocked zero h = a-pulse
+clocked (suc zero) h = the-gates 0 (omega arith)
+clocked (suc (suc zero)) h = the-gates 2 (omega arith)
+clocked (suc (suc (suc i))) h = absurd (omega arith)
+
+untaken : (i : ℕ) → i < 3 → recordAt retriggering i ≡ pulsing → reloadsNext (at (after started [] retriggering i .board .timer) 1) ≡ false
+unfolding rules armed started retriggering joined
+untaken zero h e = refl
+untaken (suc zero) h e = refl
+untaken (suc (suc zero)) h e = refl
+untaken (suc (suc (suc i))) h e = absurd (omega arith)
+
+waves-from : (m : ℕ) → m < 6 → Loaded m 5 (at (after freshOf [] (starting m) 5 .board .timer) 0)
+unfolding rules starting joined
+waves-from zero h = record { mode = refl; count = refl; value = refl; odd = λ e. absurd (omega (arith, e)); out = refl; full = refl; pending = refl; trigger = refl; whole = λ _. refl; gate = refl }
+waves-from (suc zero) h = record { mode = refl; count = refl; value = refl; odd = λ e. absurd (omega (arith, e)); out = refl; full = refl; pending = refl; trigger = refl; whole = λ _. refl; gate = refl }
+waves-from (suc (suc zero)) h = record { mode = refl; count = refl; value = refl; odd = λ e. absurd (omega (arith, e)); out = refl; full = refl; pending = refl; trigger = refl; whole = λ _. refl; gate = refl }
+waves-from (suc (suc (suc zero))) h = record { mode = refl; count = refl; value = refl; odd = λ _. refl; out = refl; full = refl; pending = refl; trigger = refl; whole = λ _. refl; gate = refl }
+waves-from (suc (suc (suc (suc zero)))) h = record { mode = refl; count = refl; value = refl; odd = λ e. absurd (omega (arith, e)); out = refl; full = refl; pending = refl; trigger = refl; whole = λ _. refl; gate = refl }
+waves-from (suc (suc (suc (suc (suc zero))))) h = record { mode = refl; count = refl; value = refl; odd = λ e. absurd (omega (arith, e)); out = refl; full = refl; pending = refl; trigger = refl; whole = λ _. refl; gate = refl }
+waves-from (suc (suc (suc (suc (suc (suc m)))))) h = absurd (omega (arith, h))
 
 quiet : Unread 0 (readAt halved [] 0 .board) [] between 2
 unfolding rules halved between joined
 quiet zero h = refl
 quiet (suc zero) h = refl
 quiet (suc (suc i)) h = absurd (omega arith)
+
+unread : Unread 0 latched [] busy 4
+unfolding rules latched busy joined
+unread zero h = refl
+unread (suc zero) h = refl
+unread (suc (suc zero)) h = refl
+unread (suc (suc (suc zero))) h = refl
+unread (suc (suc (suc (suc i)))) h = absurd (omega arith)
 
 plain : (i : ℕ) → i < 6 → plainCycle (recordAt cycles i) ≡ true
 unfolding rules cycles formed uses among every joined
@@ -66,7 +99,7 @@ reached-serving =
     fed (joined (requesting 4 ++ cycling 7 ∷ [])) [] 80 (small-bytes (joined (requesting 4 ++ cycling 7 ∷ [])) refl) (small-bytes [] refl) unfed
 
 pub worked : Worked
-unfolding rules setup further memory board timing dividing pulses halved between requesting waiting serving cycles answerAt answersIn unitsOf joined areBytes among
+unfolding rules setup further memory board timing dividing pulses armed started retriggering halved between latched busy requesting waiting serving cycles answerAt answersIn unitsOf joined areBytes among
 worked =
     record {
       reached = fed setup memory 80 (small-bytes setup refl) (small-bytes memory refl) unfed;
@@ -75,8 +108,15 @@ worked =
       bytes = refl;
       loaded = taught .mode-count-pulse freshOf [] 1 116 5 2 (omega arith) refl refl refl refl refl .1;
       rewritten = taught .count-pulse timing [] 2 4 4 (omega arith) refl refl refl (low-byte refl) refl;
-      waited = taught .later-count-waits dividing [] pulses 0 5 5 2 (omega arith) refl refl refl (low-byte refl) (omega arith) each none .1 refl;
+      evenly = taught .mode-count-pulse freshOf [] 0 22 5 0 (omega arith) refl refl refl refl refl .1;
+      untriggered = taught .mode-count-pulse freshOf [] 0 18 5 0 (omega arith) refl refl refl refl refl .1;
+      waited = taught .later-count-waits dividing [] pulses 0 5 5 2 (omega arith) refl refl refl refl (low-byte refl) refl each none refl .1 refl;
+      unstarted = taught .untriggered-waits armed [] 1 3 (omega arith) (omega arith) refl refl refl;
+      triggered = taught .trigger-pulse armed [] 1 2 (omega arith) refl refl refl (omega arith) refl;
+      retriggered = taught .later-count-waits started [] retriggering 1 4 4 3 (omega arith) refl refl refl refl (low-byte refl) refl clocked untaken refl .1 refl;
+      waves-from = waves-from;
       half-read = taught .half-read-waits halved [] 0 (omega arith) refl refl refl refl .1 between 2 quiet refl .answers;
+      still-latched = modes .latch-holds latched [] busy 0 4 (omega arith) refl refl unread .2 refl refl .1;
       waiting-reached = reached-waiting;
       serving-reached = reached-serving;
       singly = taught .single-moves-one-more {b = waiting} reached-waiting [] cycles 0 2 (omega arith) refl refl alone refl refl plain .0 3 (omega arith) .0;

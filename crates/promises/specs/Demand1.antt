@@ -57,8 +57,8 @@ pub record OfRecord (b : Board) (r m : List ℕ) : Type 0 where
   -- Not so: a board that gives a spurious level 7; one that gives 5 before the chip is ready.
   pub row-5 : (statusOf b r m ≡ 5)
       ↔ ((formed r and not (held b r) and not (outOfTurn b r) and not (notBuilt r) and intLow b r) ≡ true)
-  -- 6: count 1 completed in mode 2.
-  -- Not so: a board that refuses count 1 in mode 0; one that refuses the low byte 1 of a count of two bytes.
+  -- 6: count 1 completed in mode 2 or 3.
+  -- Not so: a board that refuses count 1 in mode 0, 1, 4 or 5; one that refuses the low byte 1 of a count of two bytes.
   pub row-6 : (statusOf b r m ≡ 6)
       ↔ ((formed r and not (held b r) and not (outOfTurn b r) and not (notBuilt r) and not (intLow b r) and countsOne b r) ≡ true)
   -- 0: done, exactly if no other row is met.

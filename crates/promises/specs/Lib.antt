@@ -6,6 +6,8 @@ pub mod Demand1
 pub mod Demand3
 pub mod TaughtWords
 pub mod Taught
+pub mod Modes
+pub mod Waves
 pub mod Meant
 pub mod Worked
 pub mod Examples

@@ -4,6 +4,8 @@ use Rattle.promises.specs.Demand1.{Demand1}
 use Rattle.promises.specs.Demand3.{Demand3}
 use Rattle.promises.specs.Reached.{ReachedBoards}
 use Rattle.promises.specs.Taught.{Taught}
+use Rattle.promises.specs.Modes.{Modes}
+use Rattle.promises.specs.Waves.{Waves}
 use Rattle.promises.specs.Meant.{Meant}
 use Rattle.promises.specs.Worked.{Worked}
 use Rattle.promises.specs.Examples.{Examples}
@@ -13,6 +15,8 @@ pub record Promises : Type 0 where
   pub demand-3 : Demand3
   pub reached : ReachedBoards
   pub taught : Taught
+  pub modes : Modes
+  pub waves : Waves
   pub meant : Meant
   pub worked : Worked
   pub examples : Examples

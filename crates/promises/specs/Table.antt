@@ -88,7 +88,7 @@ unstarted c = not (among (c .stage) (1 ∷ 2 ∷ 3 ∷ []))
 
 -- So is latching, reading or writing counter n with no mode set. The control word, at 13H, names a counter in D7-D6 (11 is none), and latches it with 00 in D5-D4.
 abbrev pub modeless : Timer → ℕ → Bool
-modeless t n = not (among (at t n .mode) (0 ∷ 2 ∷ []))
+modeless t n = not (among (at t n .mode) (0 ∷ 1 ∷ 2 ∷ 3 ∷ 4 ∷ 5 ∷ []))
 
 abbrev pub latchesModeless : Timer → ℕ → Bool
 latchesModeless t x = not (eqb (x / 64) 3) and eqb (x / 16 % 4) 0 and modeless t (x / 64)
@@ -113,10 +113,9 @@ outOfTurn b r =
 abbrev pub unbuiltWord : ℕ → Bool
 unbuiltWord x = if bitOf x 4 then not (bitOf x 1) else bitOf x 3 and (bitOf x 2 or (bitOf x 6 and bitOf x 5))
 
--- At 13H: counter 11 in D7-D6. Otherwise, unless D5-D4 are 00, which is a latch: BCD in D0, or a mode in D3-D1 other than 000, 010 and 110.
+-- At 13H: counter 11 in D7-D6. Otherwise, unless D5-D4 are 00, which is a latch: BCD in D0.
 abbrev pub unbuiltControl : ℕ → Bool
-unbuiltControl x =
-    eqb (x / 64) 3 or (not (eqb (x / 16 % 4) 0) and (eqb (x % 2) 1 or not (among (x / 2 % 8) (0 ∷ 2 ∷ 6 ∷ []))))
+unbuiltControl x = eqb (x / 64) 3 or (not (eqb (x / 16 % 4) 0) and eqb (x % 2) 1)
 
 -- At 2AH: mode 11 in D7-D6, direction 11 in D3-D2, D1 or D0. At 28H: any bit but D4 and D2.
 abbrev pub unbuiltMode : ℕ → Bool
@@ -142,11 +141,11 @@ notBuilt r =
 unfoldable pub intLow : Board → List ℕ → Bool
 intLow b r = eqb (op r) 4 and not (int b)
 
--- Row 6: a count byte x that completes a count of 1 in mode 2: as the one byte of a low-byte count (format 1), or as the high byte of two (a format that is
+-- Row 6: a count byte x that completes a count of 1 in mode 2 or 3: as the one byte of a low-byte count (format 1), or as the high byte of two (a format that is
 -- neither 1, low, nor 2, high), with the low one kept. A high-byte count is a multiple of 256, and never 1.
 abbrev pub completesOne : Counter → ℕ → Bool
 completesOne c x =
-    eqb (c .mode) 2
+    among (c .mode) (2 ∷ 3 ∷ [])
     and (if eqb (c .format) 1 then eqb x 1 else not (eqb (c .format) 2) and c .half and eqb (c .low + x * 256) 1)
 
 unfoldable pub countsOne : Board → List ℕ → Bool

@@ -3,26 +3,26 @@
 -- Records.antt has the records: `writing p x` writes x to port p, `reading p` reads it, and `pulsing` advances by one pulse. TaughtWords.antt has the words.
 use mathlib.Core.Path.{_≡_}
 use mathlib.Core.Logic.{_≢_}
-use mathlib.Core.List.{List}
+use mathlib.Core.List.{List, [], _∷_}
 use mathlib.Core.Bool.{true, false, not}
 use Prim.Native.Nat.{ℕ, suc, _+_, _*_, _/_, _%_, _≤_, _<_}
 use lib.Dec.{eqb}
 use lib.ListN.{getD, length}
-use Rattle.bits.specs.Choice.{_and_, _or_}
+use Rattle.bits.specs.Choice.{if_then_else_, _and_}
 use Rattle.bits.specs.Bits.{bitOf, withoutOf}
 use Rattle.icu.specs.Fields.{isr-is}
 use Rattle.icu.specs.Words.{ready}
-use Rattle.timer.specs.Ports.{moded}
+use Rattle.timer.specs.Modes.{moded}
 use Rattle.timer.specs.Timer.{at}
 use Rattle.dma.specs.Fields.{chan}
 use Rattle.board.specs.declared.Board.{Board}
 use Rattle.board.specs.Wiring.{icu-is}
 use Rattle.board.specs.Step.{stepOf}
 use Rattle.board.specs.Records.{recordAt, after}
-use Rattle.promises.specs.Records.{writing, reading, setting, pulsing}
-use Rattle.promises.specs.Table.{unbuiltControl}
+use Rattle.promises.specs.Records.{writing, reading, setting, advancing, pulsing}
+use Rattle.promises.specs.Table.{among, unbuiltControl}
 use Rattle.promises.specs.Words.{answersIn, unitsOf, auto, Highest, requested, inService}
-use Rattle.promises.specs.TaughtWords.{writingOf, firstByte, readingOf, valueOf, Completes, transfersNext, reloadsNext, modeWordFor, formatIn, countMade, loading, writesIn, holds, Unread, readAt, later, Reads, plainCycle, goesOn, Alone}
+use Rattle.promises.specs.TaughtWords.{writingOf, firstByte, readingOf, valueOf, Completes, tooSmall, loadsAs, transfersNext, reloadsNext, Clocks, modeWordFor, modeNamed, formatIn, countMade, loading, writesIn, holds, Unread, readAt, later, Reads, plainCycle, goesOn, Alone}
 use Rattle.promises.specs.Reached.{Reached}
 
 pub record Taught : Type 0 where
@@ -65,41 +65,64 @@ pub record Taught : Type 0 where
   -- Not so: a board that loads when GATE rises; one that loads when the counter is read.
   pub only-pulses-load : (b : Board) (m r : List ℕ) (n : ℕ) → n < 3 → getD r 0 0 ≢ 0 → getD r 0 0 ≢ 5
       → at (stepOf b r m .board .timer) n .value ≡ at (b .timer) n .value
-  -- It is the next pulse that loads it. The tape: a mode word for counter n that is built, in mode 0 or 2 and any format, the bytes of a
-  -- count, which is not 1 in mode 2, and one pulse. Whatever the board was before, with its three counters and the bus free, and whatever its
-  -- gates are: the counter keeps its value up to the pulse, and with the pulse it has the count.
-  -- Not so: a board that never loads, or loads at the write; one that waits for GATE, or counts one down at that pulse.
+  -- It is a pulse that loads it. The tape: a mode word for counter n that is built, in any mode and format, the bytes of a count, which is not 1
+  -- in modes 2 and 3, and one pulse. Whatever the board was before, with its three counters and the bus free, and whatever its gates are: the
+  -- counter keeps its value up to the pulse, and with the pulse it has the count; but in modes 1 and 5 it waits for a trigger, and keeps its value.
+  -- Not so: a board that never loads, or loads at the write, waits for GATE, or counts one down at that pulse; one on which mode 1 starts without a trigger.
   pub mode-count-pulse : (b : Board) (m : List ℕ) (n w x y : ℕ) → n < 3
       → b .dma .serving ≡ false
       → length (b .timer .counters) ≡ 3
       → modeWordFor n w ≡ true
       → unbuiltControl w ≡ false
-      → (eqb (w / 2 % 8) 0 or not (eqb (countMade (formatIn w) x y) 1)) ≡ true
+      → tooSmall (modeNamed w) (countMade (formatIn w) x y) ≡ false
       → (at (after b m (loading n w x y) (writesIn w) .board .timer) n .value ≡ at (b .timer) n .value)
-      × (at (after b m (loading n w x y) (suc (writesIn w)) .board .timer) n .value ≡ countMade (formatIn w) x y)
-  -- A count completed in a counter with a mode, whatever its state: in mode 0 each one is loaded by the next pulse; in mode 2 the first after the
-  -- mode word, or the one that replaces it before that pulse.
-  -- Not so: a board that loads the first count only; one that in mode 0 lets a new count wait for the end of the old one.
+      × (at (after b m (loading n w x y) (suc (writesIn w)) .board .timer) n .value
+      ≡ (if among (modeNamed w) (1 ∷ 5 ∷ []) then at (b .timer) n .value else loadsAs (modeNamed w) (countMade (formatIn w) x y)))
+  -- There it waits however many pulses come: in modes 1 and 5, while a count pends that no trigger has loaded since the mode word, and no trigger
+  -- pends, an advance leaves the value.
+  -- Not so: a board that counts down from what stands in the counter before the first trigger; one that loads once GATE has been high for long enough.
+  pub untriggered-waits : (b : Board) (m : List ℕ) (n k : ℕ) → n < 3
+      → k < 65536
+      → among (at (b .timer) n .mode) (1 ∷ 5 ∷ []) ≡ true
+      → at (b .timer) n .pending ≡ true
+      → at (b .timer) n .trigger ≡ false
+      → at (stepOf b (advancing k) m .board .timer) n .value ≡ at (b .timer) n .value
+  -- A count completed in a counter with a mode, whatever its state: in modes 0 and 4 each one is loaded by the next pulse; in modes 2 and 3 the
+  -- first after the mode word, or the one that replaces it before that pulse; in modes 1 and 5 any, if a trigger pends.
+  -- Not so: a board that loads the first count only, or in mode 0 lets a new count wait for the end of the old one; one that shows odd values in mode 3.
   pub count-pulse : (b : Board) (m : List ℕ) (n x N : ℕ) → n < 3
       → b .dma .serving ≡ false
       → moded (at (b .timer) n) ≡ true
       → transfersNext (at (b .timer) n) ≡ true
       → Completes (at (b .timer) n) x N
-      → (eqb (at (b .timer) n .mode) 2 and eqb N 1) ≡ false
-      → at (stepOf (stepOf b (writing (16 + n) x) m .board) pulsing m .board .timer) n .value ≡ N
-  -- A later count of mode 2 waits for the next reload: pulse by pulse the counter has the value that it would have had without the write, and
-  -- the first pulse that reloads it loads N.
-  -- Not so: a board that loads it at the next pulse; one that reloads the old count once more.
+      → tooSmall (at (b .timer) n .mode) N ≡ false
+      → at (stepOf (stepOf b (writing (16 + n) x) m .board) pulsing m .board .timer) n .value ≡ loadsAs (at (b .timer) n .mode) N
+  -- Once a count is complete, a rise of GATE is a trigger in modes 1, 2, 3 and 5: the next pulse loads the last complete count, wherever the
+  -- counter is.
+  -- Not so: a board that in mode 1 counts to the end first; one that loads the count it ran with, and not the last one.
+  pub trigger-pulse : (b : Board) (m : List ℕ) (n l : ℕ) → n < 3
+      → among (at (b .timer) n .mode) (1 ∷ 2 ∷ 3 ∷ 5 ∷ []) ≡ true
+      → at (b .timer) n .full ≡ true
+      → at (b .timer) n .gate ≡ false
+      → l < 8
+      → bitOf l n ≡ true
+      → at (stepOf (stepOf b (setting 1 l) m .board) pulsing m .board .timer) n .value ≡ loadsAs (at (b .timer) n .mode) (at (b .timer) n .count)
+  -- Any other count, written once one is complete, waits for the next load: a trigger in modes 1 and 5, a trigger or the end in modes 2 and 3. Over any
+  -- pulses and levels of the gates the counter has the value that it would have had without the write, and the first pulse that loads it loads N.
+  -- Not so: a board that loads it at the next pulse, so that in mode 5 a rewrite restarts it; one that loads the old count once more.
   pub later-count-waits : (b : Board) (m s : List ℕ) (n x N j : ℕ) → n < 3
       → b .dma .serving ≡ false
-      → at (b .timer) n .mode ≡ 2
+      → moded (at (b .timer) n) ≡ true
+      → at (b .timer) n .full ≡ true
       → transfersNext (at (b .timer) n) ≡ false
       → Completes (at (b .timer) n) x N
-      → N ≢ 1
-      → ((i : ℕ) → i ≤ j → recordAt s i ≡ pulsing)
-      → ((i : ℕ) → i < j → reloadsNext (at (after b m s i .board .timer) n) ≡ false)
+      → tooSmall (at (b .timer) n .mode) N ≡ false
+      → ((i : ℕ) → i < j → Clocks (recordAt s i))
+      → ((i : ℕ) → i < j → recordAt s i ≡ pulsing → reloadsNext (at (after b m s i .board .timer) n) ≡ false)
+      → recordAt s j ≡ pulsing
       → ((i : ℕ) → i ≤ j → at (after (stepOf b (writing (16 + n) x) m .board) m s i .board .timer) n .value ≡ at (after b m s i .board .timer) n .value)
-      × (reloadsNext (at (after b m s j .board .timer) n) ≡ true → at (after (stepOf b (writing (16 + n) x) m .board) m s (suc j) .board .timer) n .value ≡ N)
+      × (reloadsNext (at (after b m s j .board .timer) n) ≡ true
+      → at (after (stepOf b (writing (16 + n) x) m .board) m s (suc j) .board .timer) n .value ≡ loadsAs (at (b .timer) n .mode) N)
   -- "One read pointer shared with writes." A read moves no writing place: the half-written byte, the last complete count and what it waits
   -- for stay as they are, of every counter, and so does its value.
   -- Not so: a board whose read completes a half-written count; one whose read drops it.

@@ -1,8 +1,8 @@
 -- The words of what the class is taught: of writing, reading and loading a count, and of units.
 use mathlib.Core.Path.{_≡_}
-use mathlib.Core.List.{List, _++_}
+use mathlib.Core.List.{List, [], _∷_, _++_}
 use mathlib.Core.Bool.{Bool, true, false, not}
-use Prim.Native.Nat.{ℕ, _+_, _*_, _/_, _%_, _<_}
+use Prim.Native.Nat.{ℕ, _+_, _-_, _*_, _/_, _%_, _<_}
 use lib.Dec.{eqb}
 use lib.ListN.{getD}
 use Rattle.bits.specs.Choice.{if_then_else_, _and_, _or_}
@@ -13,8 +13,8 @@ use Rattle.board.specs.declared.Board.{Board}
 use Rattle.board.specs.declared.Stepped.{Stepped}
 use Rattle.board.specs.Step.{stepOf}
 use Rattle.board.specs.Records.{recordAt, Run, after}
-use Rattle.promises.specs.Records.{writing, reading, pulsing}
-use Rattle.promises.specs.Table.{formed}
+use Rattle.promises.specs.Records.{writing, reading, setting, pulsing}
+use Rattle.promises.specs.Table.{among, formed}
 use Rattle.promises.specs.Words.{dataIn, asks}
 
 -- Where a writing stands: the first byte of two, kept apart, and the last complete count with what it waits for.
@@ -50,14 +50,37 @@ pub data Completes (c : Counter) (x : ℕ) : ℕ → Type 0 where
   high-byte : c .format ≡ 2 → Completes c x (x * 256)
   second-byte : c .format ≡ 3 → c .half ≡ true → Completes c x (c .low + x * 256)
 
--- The next pulse transfers a count that is completed now: the first after the mode word, the one that replaces it before that pulse,
--- and in mode 0 each one.
-abbrev pub transfersNext : Counter → Bool
-transfersNext c = not (c .full) or c .pending or eqb (c .mode) 0
+-- Count 1 is below the minimum of modes 2 and 3.
+abbrev pub tooSmall : ℕ → ℕ → Bool
+tooSmall mode N = among mode (2 ∷ 3 ∷ []) and eqb N 1
 
--- In mode 2, with a count complete and none to transfer, the next pulse reloads: a trigger pends, or GATE is high and the counter at 1.
+-- What a load of the count N puts into a counter: N, and in mode 3 the even number at or below it.
+abbrev pub loadsAs : ℕ → ℕ → ℕ
+loadsAs mode N = if eqb mode 3 then N - N % 2 else N
+
+-- The next pulse transfers a count that is completed now: in modes 0 and 4 each one; in modes 2 and 3 the first after the mode word, or the one
+-- that replaces it before that pulse; in modes 1 and 5 any for which a trigger pends.
+abbrev pub transfersNext : Counter → Bool
+transfersNext c =
+    if among (c .mode) (0 ∷ 4 ∷ []) then true
+    else if among (c .mode) (2 ∷ 3 ∷ []) then not (c .full) or c .pending
+    else c .trigger
+
+-- A counter at its end: 1 in mode 2; in mode 3 the end of a half, which is 0 in the high half of an odd count, and 2 in any other.
+abbrev pub atEnd : Counter → Bool
+atEnd c =
+    if eqb (c .mode) 2 then eqb (c .value) 1
+    else eqb (c .mode) 3 and eqb (c .value) (if c .out and c .odd then 0 else 2)
+
+-- With a count complete and none that the next pulse transfers, that pulse loads all the same if a trigger pends, or if GATE is high and the
+-- counter at its end.
 abbrev pub reloadsNext : Counter → Bool
-reloadsNext c = c .trigger or (c .gate and eqb (c .value) 1)
+reloadsNext c = c .trigger or (c .gate and atEnd c)
+
+-- A record is one pulse, or sets the gates.
+pub data Clocks : List ℕ → Type 0 where
+  a-pulse : Clocks pulsing
+  the-gates : (l : ℕ) → l < 8 → Clocks (setting 1 l)
 
 -- The control word w is a mode word for counter n: D7-D6 name it, and D5-D4, the format, are not 00.
 abbrev pub formatIn : ℕ → ℕ
@@ -65,6 +88,10 @@ formatIn w = w / 16 % 4
 
 abbrev pub modeWordFor : ℕ → ℕ → Bool
 modeWordFor n w = eqb (w / 64) n and not (eqb (formatIn w) 0)
+
+-- The mode that it names in D3-D1: 000, 001, 100 and 101 are 0, 1, 4 and 5; 010 and 110 are 2, 011 and 111 are 3.
+abbrev pub modeNamed : ℕ → ℕ
+modeNamed w = if among (w / 2 % 8) (6 ∷ 7 ∷ []) then w / 2 % 8 - 4 else w / 2 % 8
 
 -- The bytes of a count as counter n takes them in format f, from a low byte x and a high byte y: x alone in format 1, y alone in format 2,
 -- and in format 3 both, the low one first. The count that they make: a byte that is not written is zero.

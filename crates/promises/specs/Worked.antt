@@ -1,8 +1,8 @@
--- Boards and tapes of which demand 3 and the statements on loading, half reads and units speak, each from reset by a short tape: so these are not
+-- Boards and tapes of which demand 3 and the statements on loading, half reads, latches and units speak, each from reset by a short tape: so these are not
 -- about nothing. (Of interrupts the examples are such tapes.)
 use mathlib.Core.Path.{_≡_}
 use mathlib.Core.List.{List, [], _∷_, _++_}
-use Prim.Native.Nat.{ℕ}
+use Prim.Native.Nat.{ℕ, _+_, _*_, _<_}
 use lib.ListN.{length, replicate}
 use Rattle.timer.specs.Timer.{at}
 use Rattle.board.specs.declared.Board.{Board}
@@ -10,10 +10,11 @@ use Rattle.board.specs.Wiring.{freshOf}
 use Rattle.board.specs.Step.{stepOf}
 use Rattle.board.specs.Records.{after}
 use Rattle.intake.specs.Feed.{fedOf}
-use Rattle.promises.specs.Records.{writing, setting, pulsing, cycling, joined}
+use Rattle.promises.specs.Records.{writing, setting, advancing, pulsing, cycling, joined}
 use Rattle.promises.specs.Words.{answersIn, unitsOf, dataIn, Calm}
 use Rattle.promises.specs.Reached.{Reached}
 use Rattle.promises.specs.TaughtWords.{loading, readAt, later}
+use Rattle.promises.specs.Waves.{Loaded}
 
 -- Demand 3, a further tape that disturbs nothing and moves three units. Channel 0 in block mode, device to memory, count 2 from address 5, unmasked; its
 -- request goes high.
@@ -40,12 +41,33 @@ dividing = after freshOf [] (loading 0 20 3 0) 3 .board
 unfoldable pub pulses : List ℕ
 pulses = joined (pulsing ∷ pulsing ∷ pulsing ∷ [])
 
+-- Triggers. Counter 1 in mode 5, low byte, with count 9 and GATE low; at 9, once GATE rose; and a pulse, then a trigger and its pulse.
+unfoldable pub armed : Board
+armed = after freshOf [] (joined (writing 19 90 ∷ writing 17 9 ∷ setting 1 0 ∷ [])) 3 .board
+
+unfoldable pub started : Board
+started = after armed [] (joined (setting 1 2 ∷ pulsing ∷ [])) 2 .board
+
+unfoldable pub retriggering : List ℕ
+retriggering = joined (pulsing ∷ setting 1 0 ∷ setting 1 2 ∷ pulsing ∷ [])
+
+-- OUT. Counter 0 in mode m, low byte, with count 5; GATE falls and rises, and a pulse.
+unfoldable pub starting : ℕ → List ℕ
+starting m = joined (writing 19 (16 + 2 * m) ∷ writing 16 5 ∷ setting 1 6 ∷ setting 1 7 ∷ pulsing ∷ [])
+
 -- Half a count read. Counter 0 in mode 0, both bytes, at 0200H; and a pulse and a latch.
 unfoldable pub halved : Board
 halved = after freshOf [] (loading 0 48 0 2) 4 .board
 
 unfoldable pub between : List ℕ
 between = joined (pulsing ∷ writing 19 0 ∷ [])
+
+-- A latch. Counter 0 in mode 3, both bytes, with count 5, is latched at 4; and a pulse, a byte of another count, a second latch and a pulse.
+unfoldable pub latched : Board
+latched = after freshOf [] (joined (writing 19 54 ∷ writing 16 5 ∷ writing 16 0 ∷ pulsing ∷ writing 19 0 ∷ [])) 5 .board
+
+unfoldable pub busy : List ℕ
+busy = joined (pulsing ∷ writing 16 9 ∷ writing 19 0 ∷ pulsing ∷ [])
 
 -- Units. Channel 0 with count 2 and its request high: in single mode (44H), and in demand mode (04H) once it is served; and six cycles.
 unfoldable pub requesting : ℕ → List (List ℕ)
@@ -67,11 +89,22 @@ pub record Worked : Type 0 where
   pub bytes : after board memory further 5 .memory ≡ 1 ∷ 1 ∷ 1 ∷ 1 ∷ 1 ∷ 7 ∷ 8 ∷ 9 ∷ []
   -- Counter 1 in mode 2, both bytes: the tape loads 0205H.
   pub loaded : at (after freshOf [] (loading 1 116 5 2) 4 .board .timer) 1 .value ≡ 517
+  -- Count 5 is loaded as 4 in mode 3, and waits for a trigger in mode 1.
+  pub evenly : at (after freshOf [] (loading 0 22 5 0) 3 .board .timer) 0 .value ≡ 4
+  pub untriggered : at (after freshOf [] (loading 0 18 5 0) 3 .board .timer) 0 .value ≡ 0
   -- A count of 4 is loaded by the next pulse in mode 0; in mode 2 one of 5, by the third, which reloads.
   pub rewritten : at (stepOf (stepOf timing (writing 18 4) [] .board) pulsing [] .board .timer) 2 .value ≡ 4
   pub waited : at (after (stepOf dividing (writing 16 5) [] .board) [] pulses 3 .board .timer) 0 .value ≡ 5
+  -- In mode 5 nothing counts before a trigger, and a trigger loads the count; one of 4, written while it runs, waits for the next trigger.
+  pub unstarted : at (stepOf armed (advancing 3) [] .board .timer) 1 .value ≡ 0
+  pub triggered : at (stepOf (stepOf armed (setting 1 2) [] .board) pulsing [] .board .timer) 1 .value ≡ 9
+  pub retriggered : at (after (stepOf started (writing 17 4) [] .board) [] retriggering 4 .board .timer) 1 .value ≡ 4
+  -- That tape loads the count in each mode.
+  pub waves-from : (m : ℕ) → m < 6 → Loaded m 5 (at (after freshOf [] (starting m) 5 .board .timer) 0)
   -- After the low byte of 0200H, a pulse and a latch, the high byte of 01FFH is read.
   pub half-read : dataIn (readAt (later halved [] 0 between 2 .board) (later halved [] 0 between 2 .memory) 0 .answer) ≡ 1
+  -- The latch shows 4 all the while.
+  pub still-latched : dataIn (readAt (after latched [] busy 4 .board) (after latched [] busy 4 .memory) 0 .answer) ≡ 4
   -- Count 2 moves three units.
   pub waiting-reached : Reached waiting
   pub serving-reached : Reached serving
