@@ -8,7 +8,7 @@ mod spoilt;
 
 use rival::counts;
 
-const ROUNDS: u32 = 64;
+const ROUNDS: u32 = 80;
 
 fn tell_usage() -> u8 {
     io::write_all(
@@ -47,12 +47,12 @@ fn are_wrong(words: usize) -> bool {
 fn run_all(words: usize) -> u8 {
     let totals = run::take_arguments(words);
     let totalled = run::print_totals(totals);
-    let tally = rounds::duel(ROUNDS);
-    let counted = rounds::print_all(ROUNDS, tally);
+    let counted = rounds::duel(ROUNDS);
+    let written = rounds::print_all(ROUNDS, counted);
     run::print_last(
         totals,
-        counts::at(tally, counts::DIFFERENCES),
-        totalled & counted,
+        counts::at(counted.tally, counts::DIFFERENCES),
+        totalled & written,
     )
 }
 

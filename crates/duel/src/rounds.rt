@@ -4,14 +4,16 @@ use super::first;
 use super::first::Run;
 use rival::counts;
 use rival::counts::Tally;
+use rival::modes;
+use rival::modes::Modes;
 use rival::show;
 use rival::stretch;
 use rival::stretch::Answers;
 use rival::stretch::Memory;
+use rival::stretch::Ran;
 use rival::stretch::Tape;
 use rival::tapes;
 use rival::tapes::Maker;
-use second::State;
 
 // The lengths of memory, by round.
 const LENGTHS: [u32; 16] = [
@@ -37,7 +39,13 @@ const LENGTHS: [u32; 16] = [
 struct Round {
     maker: Maker,
     run: Run,
-    s: State,
+    ran: Ran,
+}
+
+// The counts of the duel.
+pub struct Counted {
+    pub tally: Tally,
+    modes: Modes,
 }
 
 fn fill(memory: &mut Memory, seed: u32) {
@@ -149,17 +157,15 @@ fn run_stretch(
     let mut tape = [0u8; 512];
     let mut want = [stretch::UNWRITTEN; 1088];
     let mut got = [stretch::UNWRITTEN; 1088];
-    let s = state.s;
     let maker = make(state.maker, &mut tape);
-    let last = stretch::run_second(s, &tape, 64, second_memory, length, &mut want);
+    let ran = stretch::run_second(state.ran, &tape, 64, second_memory, length, &mut want);
     let run = first::run_first(state.run, &tape, 64, first_memory, length, &mut got);
     let counted = compare_answers(run.tally, round, passed, &tape, &want, &got);
     let tally = compare_memory(counted, round, passed, first_memory, second_memory);
-    let next = last.s;
     Round {
         maker: maker,
         run: first::counting(run, tally),
-        s: next,
+        ran: ran,
     }
 }
 
@@ -168,45 +174,56 @@ fn length_of(round: u32) -> u32 {
     LENGTHS[row]
 }
 
-fn start(round: u32, tally: Tally) -> Round {
-    let s = second::second_reset();
+fn start(round: u32, counted: Counted) -> Round {
     Round {
         maker: tapes::start(round % 65536 + 1, length_of(round)),
-        run: first::from_reset(round % 65536 + 1, tally),
-        s: s,
+        run: first::from_reset(round % 65536 + 1, counted.tally),
+        ran: stretch::from_reset(counted.modes),
     }
 }
 
-fn run_round(round: u32, tally: Tally) -> Tally {
+fn run_round(round: u32, counted: Counted) -> Counted {
     let mut first_memory = [0u8; 4096];
     let mut second_memory = [0u8; 4096];
     fill(&mut first_memory, round);
     fill(&mut second_memory, round);
-    let mut state = start(round, tally);
+    let mut state = start(round, counted);
     let mut i: u64 = 0;
     while i < 64 {
         state = run_stretch(state, &mut first_memory, &mut second_memory, round, i * 64);
         i += 1;
     }
     let run = state.run;
-    run.tally
+    let ran = state.ran;
+    let tally = run.tally;
+    let modes = ran.modes;
+    Counted {
+        tally: tally,
+        modes: modes,
+    }
+}
+
+fn none_yet() -> Counted {
+    Counted {
+        tally: counts::zero(),
+        modes: modes::zero(),
+    }
 }
 
 // n rounds.
-pub fn duel(n: u32) -> Tally {
-    let mut tally = counts::zero();
+pub fn duel(n: u32) -> Counted {
+    let mut counted = none_yet();
     let mut round: u32 = 0;
     while round < n {
-        tally = run_round(round, tally);
+        counted = run_round(round, counted);
         round += 1;
     }
-    tally
+    counted
 }
 
 // The counts of n rounds.
-pub fn print_all(n: u32, tally: Tally) -> bool {
-    if show::print_with(b"rounds: %\n", n as u64, 0, 0, 0) {
-        return counts::print_all(tally);
-    }
-    false
+pub fn print_all(n: u32, counted: Counted) -> bool {
+    show::print_with(b"rounds: %\n", n as u64, 0, 0, 0)
+        & counts::print_all(counted.tally)
+        & modes::print_all(counted.modes)
 }

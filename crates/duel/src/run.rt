@@ -5,6 +5,7 @@ use libc::STDERR_FILENO;
 use libc::STDOUT_FILENO;
 use rival::counts;
 use rival::counts::Tally;
+use rival::modes;
 use rival::notation;
 use rival::notation::Line;
 use rival::show;
@@ -161,7 +162,7 @@ fn both_agree(tape: &Tape, typed: &Answers, n: usize, number: u32) -> bool {
     let mut first_answers = [stretch::UNWRITTEN; 1088];
     let mut second_answers = [stretch::UNWRITTEN; 1088];
     stretch::run_second(
-        second::second_reset(),
+        stretch::from_reset(modes::zero()),
         tape,
         n,
         &mut second_memory,

@@ -37,6 +37,7 @@ fn same_counter(a: Counter, b: Counter) -> bool {
         & (a.second == b.second)
         & (a.gate == b.gate)
         & (a.out == b.out)
+        & (a.odd == b.odd)
 }
 
 fn same_timer(a: Timer, b: Timer) -> bool {

@@ -32,11 +32,11 @@ fn spoil_counter(c: Counter, draw: u32) -> Counter {
     let mut next = c;
     match draw % 4 {
         0 => {
-            next.mode = 1;
+            next.mode = 6;
             return next;
         }
         1 => {
-            next.mode = 3;
+            next.mode = 7;
             return next;
         }
         2 => {

@@ -1,5 +1,6 @@
 // The parts of the program `duel` that do not touch the first board: tapes for both boards, the charts' notation, the counts and what is printed.
 pub mod counts;
+pub mod modes;
 pub mod notation;
 pub mod show;
 pub mod stretch;

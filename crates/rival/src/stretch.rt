@@ -1,6 +1,7 @@
 // A stretch of tape: 64 records at most, with room for their answers. Both boards run it. `differ_at` holds answers against answers and `first_apart`
 // memory against memory; nothing else compares.
-use second::Answered;
+use crate::modes;
+use crate::modes::Modes;
 use second::State;
 
 pub type Tape = [u8; 512];
@@ -127,49 +128,79 @@ pub fn copy_memory(from: &Memory, to: &mut Memory) {
     }
 }
 
-// The second board, record by record.
-fn run_over(
-    start: State,
-    tape: &Tape,
-    n: usize,
+// The second board under way, and what its counters did.
+pub struct Ran {
+    pub s: State,
+    pub modes: Modes,
+}
+
+// The second board from reset, with the counts so far.
+pub fn from_reset(modes: Modes) -> Ran {
+    let s = second::second_reset();
+    Ran { s: s, modes: modes }
+}
+
+// One record: two words.
+fn run_one(
+    ran: Ran,
+    low: u32,
+    high: u32,
     memory: &mut [u8],
     answers: &mut Answers,
-) -> Answered {
-    let mut last = second::unasked(start);
+    i: usize,
+) -> Ran {
+    let s = ran.s;
+    let answered = second::second_step(s, low, high, memory);
+    let next = answered.s;
+    let answer = answered.answer;
+    put_answer(answers, i, answer);
+    Ran {
+        s: next,
+        modes: modes::count_record(ran.modes, s, next, low, high, answer),
+    }
+}
+
+// The second board, record by record.
+fn run_over(start: Ran, tape: &Tape, n: usize, memory: &mut [u8], answers: &mut Answers) -> Ran {
+    let mut ran = start;
     let mut i: usize = 0;
     while i < n {
-        let s = last.s;
-        last = second::second_step(s, word_at(tape, i, 0), word_at(tape, i, 1), memory);
-        let answer = last.answer;
-        put_answer(answers, i, answer);
+        ran = run_one(
+            ran,
+            word_at(tape, i, 0),
+            word_at(tape, i, 1),
+            memory,
+            answers,
+            i,
+        );
         i += 1;
     }
-    last
+    ran
 }
 
 // The memory's first bytes, as many as the board is lent.
 fn run_cut(
-    s: State,
+    start: Ran,
     tape: &Tape,
     n: usize,
     memory: &mut [u8],
     length: usize,
     answers: &mut Answers,
-) -> Answered {
+) -> Ran {
     if length <= memory.len() {
-        return run_over(s, tape, n, &mut memory[0..length], answers);
+        return run_over(start, tape, n, &mut memory[0..length], answers);
     }
-    second::unasked(s)
+    start
 }
 
 // The first n records on the second board over the first `length` bytes of the memory: the board after them.
 pub fn run_second(
-    s: State,
+    start: Ran,
     tape: &Tape,
     n: usize,
     memory: &mut Memory,
     length: usize,
     answers: &mut Answers,
-) -> Answered {
-    run_cut(s, tape, n, memory, length, answers)
+) -> Ran {
+    run_cut(start, tape, n, memory, length, answers)
 }

@@ -1,15 +1,15 @@
 // Tapes from a seed: records steered so that the chips are really used.
 //
 // The maker mostly makes single records, drawn by weights. Now and then it starts a script, which sets a chip up record by record, with single
-// records strewn in: the initializing words of the interrupt chip, a counter's mode and count, a channel with its requests and cycles (some of these
-// after a reset of the DMA chip by register 0), or a latch and reads of a counter. In the end one record in thirty-two has a byte changed, whatever
-// that makes of it.
+// records strewn in: the initializing words of the interrupt chip, a counter's mode and count, a counter that is then run (pulses, its gate, counts
+// written again, reads), a channel with its requests and cycles (some of these after a reset of the DMA chip by register 0), or a latch and reads of
+// a counter. In the end one record in thirty-two has a byte changed, whatever that makes of it.
 //
 // Addresses lie near 0, near the memory's end and near FFFFFFH.
 
 pub struct Maker {
     pub seed: u32,
-    // 0 none, 1 interrupt chip, 2 counter, 3 channel, 4 reads of a counter, 5 a reset of the DMA chip and then 3.
+    // 0 none, 1 interrupt chip, 2 counter, 3 channel, 4 reads of a counter, 5 a reset of the DMA chip and then 3, 6 a counter that is run.
     pub script: u32,
     pub step: u32,
     // What the script drew when it began.
@@ -65,12 +65,15 @@ fn seldom(draw: u32, n: u32, x: u32) -> u32 {
 
 // Single records.
 
-// Now and then one pulse more than a record may ask for.
+// Mostly 1 to 12 pulses, or up to 255; now and then many, nearly as many as a record may ask for, or one more than that.
 fn advance(y: u32) -> [u8; 8] {
     let few = second::choose(y / 16 % 8 == 0, y / 256, y % 12 + 1);
-    let many = second::choose(y / 16 % 256 == 0, y / 65536, 0);
-    if y / 16 % 256 == 1 {
+    let many = second::choose(y / 16 % 512 == 0, y / 65536, 0);
+    if y / 16 % 512 == 1 {
         return [5, 0, 0, 0, 0, 0, 1, 0];
+    }
+    if y / 16 % 512 == 2 {
+        return [5, 0, 0, 0, low(255 - y % 16), 255, 0, 0];
     }
     [5, 0, 0, 0, low(few), low(many), 0, 0]
 }
@@ -162,12 +165,12 @@ fn icu_step(step: u32, choice: u32, y: u32) -> [u8; 8] {
     }
 }
 
-// The script of a counter: its mode word, then one or two bytes of a small count.
+// The script of a counter: its mode word, then one or two bytes of a small count. Every code of a mode comes, those of modes 0 and 2 more often.
 
-const MODE_BITS: [u32; 4] = [0x00, 0x04, 0x0C, 0x04];
+const MODE_BITS: [u32; 12] = [0, 4, 0xC, 4, 0, 4, 2, 6, 8, 0xA, 0xE, 4];
 
 fn mode_word(choice: u32) -> u32 {
-    let row = second::index(choice / 64) % 4;
+    let row = second::index(choice / 64) % 12;
     choice % 3 * 64 + (choice / 4 % 3 + 1) * 16 | MODE_BITS[row]
 }
 
@@ -176,6 +179,85 @@ fn counter_step(step: u32, choice: u32, y: u32) -> [u8; 8] {
         0 => write_of(0x13, mode_word(choice)),
         1 => write_of(0x10 + choice % 3, small_count(y)),
         _ => write_of(0x10 + choice % 3, seldom(y, 7, y / 256 % 3)),
+    }
+}
+
+// The script of a counter that is run: a mode word of any code, the counter's gate low or high, a count, and then what may happen to a counter.
+
+// Every second run is slow: its counts are 1 to 3 and its pulses come one by one, so that other records come between any two states of the counter.
+fn is_slow(choice: u32) -> bool {
+    choice / 65536 % 2 == 0
+}
+
+// D5-D4: a slow run has no count of a high byte alone.
+fn run_format(choice: u32) -> u32 {
+    second::choose(is_slow(choice), choice / 4 % 2 * 2 + 1, choice / 4 % 3 + 1)
+}
+
+// Else one count in eight is any byte, the others are small.
+fn run_count(choice: u32, y: u32) -> u32 {
+    if is_slow(choice) {
+        return y % 3 + 1;
+    }
+    second::choose(y % 8 == 0, y / 256, y / 8 % 8)
+}
+
+// All gates high, or this counter's low.
+fn gate_of(counter: u32, high: bool) -> [u8; 8] {
+    record_of(3, 1, 7 - second::choose(high, 0, 1 << (counter % 3)) % 8)
+}
+
+fn slow_happening(choice: u32, y: u32) -> [u8; 8] {
+    let counter = choice % 3;
+    let k = y % 16;
+    match k {
+        0..=6 => [5, 0, 0, 0, 1, 0, 0, 0],
+        7..=9 => gate_of(counter, false),
+        10..=13 => gate_of(counter, true),
+        14 => write_of(0x10 + counter, run_count(choice, y / 16)),
+        _ => read_of(0x10 + counter),
+    }
+}
+
+fn quick_happening(choice: u32, y: u32) -> [u8; 8] {
+    let counter = choice % 3;
+    let k = y % 16;
+    match k {
+        0..=5 => advance(y / 16),
+        6..=8 => gate_of(counter, false),
+        9..=11 => gate_of(counter, true),
+        12..=13 => write_of(0x10 + counter, run_count(choice, y / 16)),
+        14 => write_of(0x13, counter * 64),
+        _ => read_of(0x10 + counter),
+    }
+}
+
+fn happening(choice: u32, y: u32) -> [u8; 8] {
+    if is_slow(choice) {
+        return slow_happening(choice, y);
+    }
+    quick_happening(choice, y)
+}
+
+// The second byte of a count, where the format has one.
+fn second_byte(choice: u32, y: u32) -> [u8; 8] {
+    if run_format(choice) == 3 {
+        return write_of(0x10 + choice % 3, seldom(y, 7, y / 256 % 3));
+    }
+    happening(choice, y)
+}
+
+fn run_step(step: u32, choice: u32, y: u32) -> [u8; 8] {
+    let counter = choice % 3;
+    match step {
+        0 => write_of(
+            0x13,
+            counter * 64 + run_format(choice) % 4 * 16 + choice / 64 % 8 * 2,
+        ),
+        1 => gate_of(counter, y % 2 == 0),
+        2 => write_of(0x10 + counter, run_count(choice, y)),
+        3 => second_byte(choice, y),
+        _ => happening(choice, y),
     }
 }
 
@@ -250,6 +332,7 @@ fn steps_of(script: u32, choice: u32) -> u32 {
         2 => second::choose(choice / 4 % 3 == 2, 3, 2),
         4 => 6,
         5 => 5,
+        6 => choice / 4096 % 16 + 6,
         _ => choice / 4096 % 10 + 12,
     }
 }
@@ -260,6 +343,7 @@ fn script_step(script: u32, step: u32, choice: u32, memory: u32, y: u32) -> [u8;
         2 => counter_step(step, choice, y),
         4 => read_step(step, choice, y),
         5 => reset_step(step, choice, y),
+        6 => run_step(step, choice, y),
         _ => channel_step(step, choice, memory, y),
     }
 }
@@ -283,6 +367,7 @@ fn begun(x: u32) -> u32 {
         2..=7 => 2,
         8..=10 => second::choose(x / 16777216 % 5 == 0, 5, 3),
         11..=12 => 4,
+        13..=15 => 6,
         _ => 0,
     }
 }

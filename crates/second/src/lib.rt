@@ -1,4 +1,5 @@
-// The board of document 01 a second time, written from the documents alone and held against the first by running both on the same tapes.
+// The board of document 01, with the timer's six modes, a second time: written from the documents alone and held against the first by running both on
+// the same tapes.
 //
 // The whole board is one array of 96 numbers, which functions take and give back by value. What a record may be is read off tables, every refusal
 // is decided before anything changes, and an advance is worked out by division, with no loop over its pulses.
@@ -33,7 +34,7 @@ const INTP: usize = 10;
 
 // The timer: counter c has the sixteen places from 16 + 16c on.
 
-// 0 no mode, 1 mode 0, 2 mode 2.
+// 0 no mode, else the mode plus 1.
 const MODE: usize = 0;
 // 1 low byte, 2 high byte, 3 both.
 const FORMAT: usize = 1;
@@ -47,7 +48,7 @@ const GATE: usize = 4;
 const COUNT: usize = 5;
 
 const COMPLETE: usize = 6;
-// 1 while a pulse has yet to transfer the count.
+// 1 while the count has yet to be transferred, by a pulse or, in modes 1 and 5, by the first trigger.
 const WAITING: usize = 7;
 
 const TRIGGER: usize = 8;
@@ -61,6 +62,10 @@ const PLACE: usize = 11;
 const LATCH: usize = 12;
 
 const LATCHED: usize = 13;
+// 1 when a count has been transferred since the mode word.
+const LOADED: usize = 14;
+// In mode 3, 1 when the count that runs is odd.
+const ODD: usize = 15;
 
 // The DMA chip: places 64 to 71, then five for each channel.
 const SELECTED: usize = 64;
@@ -135,8 +140,20 @@ const READABLE: [u32; 16] = [
 ];
 // For each group of lines: the bits that it has.
 const GROUP: [u32; 4] = [0xFE, 0x07, 0x0F, 0x00];
-// For D3-D1 of a mode word: 1 for mode 0, 2 for mode 2, 0 for a mode that is not built.
-const MODES: [u32; 8] = [1, 0, 2, 0, 0, 0, 2, 0];
+// For D3-D1 of a mode word: the mode plus 1.
+const MODES: [u32; 8] = [1, 2, 3, 4, 5, 6, 3, 4];
+// Sets of modes: bit m + 1 is set where mode m belongs to the set.
+
+// 0 and 4: a pulse transfers every complete count, and not only the first.
+const RESTARTED: u32 = 0x22;
+// 1 and 5: nothing but a trigger transfers, and the level of GATE means nothing.
+const SHOT: u32 = 0x44;
+// 2 and 3: a count of 1 is refused, and a fall of GATE sets OUT high.
+const PERIODIC: u32 = 0x18;
+// 1, 2, 3 and 5: a rise of GATE is a trigger.
+const TRIGGERED: u32 = 0x5C;
+// 4 and 5: OUT is low for one pulse at a time.
+const STROBED: u32 = 0x60;
 // For each DMA register: the bits of a written byte that are not built. 100H marks a register no use of which is built.
 const UNBUILT: [u32; 16] = [
     0x02,
@@ -497,7 +514,7 @@ fn completed(s: State, c: u32, b: u32) -> u32 {
     }
 }
 
-// For a mode word: 1 for mode 0, 2 for mode 2, 0 for a mode that is not built.
+// For a mode word: the mode plus 1.
 fn mode_of(b: u32) -> u32 {
     let row = index(b / 2 % 8) % 8;
     MODES[row]
@@ -511,7 +528,7 @@ fn control_status(s: State, b: u32) -> u32 {
     if b & 0x30 == 0 {
         return number(timer(s, c, MODE) == 0) * 3;
     }
-    number(has(b, 0) | (mode_of(b) == 0)) * 4
+    number(has(b, 0)) * 4
 }
 
 fn timer_write_status(s: State, port: u32, b: u32) -> u32 {
@@ -519,11 +536,10 @@ fn timer_write_status(s: State, port: u32, b: u32) -> u32 {
         return control_status(s, b);
     }
     let mode = timer(s, port, MODE);
-    match mode {
-        0 => 3,
-        2 => number(completed(s, port, b) == 1) * 6,
-        _ => 0,
+    if mode == 0 {
+        return 3;
     }
+    number(has(PERIODIC, mode) & (completed(s, port, b) == 1)) * 6
 }
 
 fn latch(s: State, c: u32) -> State {
@@ -536,14 +552,15 @@ fn latch(s: State, c: u32) -> State {
 fn timer_mode_word(s: State, c: u32, b: u32) -> State {
     let mode = mode_of(b);
     let said = set_timer(set_timer(s, c, MODE, mode), c, FORMAT, b / 16 % 4);
-    let level = set_timer(said, c, OUT, number(mode == 2));
+    let level = set_timer(said, c, OUT, number(mode != 1));
     let rest = set_timer(set_timer(level, c, COMPLETE, 0), c, WAITING, 0);
     let bytes = set_timer(set_timer(rest, c, TRIGGER, 0), c, HALVED, 0);
-    set_timer(set_timer(bytes, c, PLACE, 0), c, LATCHED, 0)
+    let unlatched = set_timer(set_timer(bytes, c, PLACE, 0), c, LATCHED, 0);
+    set_timer(unlatched, c, LOADED, 0)
 }
 
 fn complete(s: State, c: u32, count: u32) -> State {
-    let at_once = (timer(s, c, MODE) == 1) | (timer(s, c, COMPLETE) == 0);
+    let at_once = has(RESTARTED, timer(s, c, MODE)) | (timer(s, c, COMPLETE) == 0);
     let waiting = choose(at_once, 1, timer(s, c, WAITING));
     let counted = set_timer(set_timer(s, c, COUNT, count), c, HALVED, 0);
     set_timer(set_timer(counted, c, WAITING, waiting), c, COMPLETE, 1)
@@ -597,7 +614,7 @@ fn still(s: State) -> Ticked {
     pulsed(s, 0)
 }
 
-// n pulses of mode 0 with the count in place and counting: OUT goes high where the value passes 0.
+// n pulses of modes 0 and 1 with the count in place and counting: OUT goes high where the value passes 0.
 fn run_down(s: State, c: u32, n: u32) -> Ticked {
     let left = steps(timer(s, c, VALUE));
     let pulses = n % 65536;
@@ -630,82 +647,151 @@ fn run_round(s: State, c: u32, n: u32) -> Ticked {
     pulsed(next, choose(whole == 1, first, (rounds + first) % 65536))
 }
 
-fn transfer(s: State, c: u32) -> State {
-    let loaded = set_timer(s, c, VALUE, timer(s, c, COUNT) % 65536);
-    set_timer(set_timer(loaded, c, WAITING, 0), c, TRIGGER, 0)
-}
-
-// Mode 0 counts while GATE is high and no count is half written.
-fn falling(s: State, c: u32, n: u32) -> Ticked {
-    if (timer(s, c, GATE) == 1) & (timer(s, c, HALVED) == 0) {
-        return run_down(s, c, n);
+// How many pulses a half of mode 3 lasts from a value: the longer half of an odd count ends after 0, any other after 2. The lowest bit of the
+// value is not looked at.
+fn half(value: u32, longer: bool) -> u32
+    ensures { λ r. ⌜ (r < 32769) × (0 < r) ⌝ }
+{
+    let pairs = value / 2 % 32768;
+    if longer {
+        return pairs + 1;
     }
-    still(s)
+    (pairs + 32767) % 32768 + 1
 }
 
-fn pulses_of_0(s: State, c: u32, n: u32) -> Ticked {
-    let left = n % 65536;
-    if left == 0 {
-        return falling(s, c, 0);
+// A value of mode 3, from which a half begins or goes on, after some pulses of that half.
+fn down_by_twos(value: u32, n: u32) -> u32 {
+    (value / 2 % 32768 * 2 + 131072 - n % 65536 * 2) % 65536
+}
+
+// n pulses of mode 3 with the count in place and counting. A round is counted from where OUT rises: its high half, then its low half.
+fn run_halves(s: State, c: u32, n: u32) -> Ticked {
+    let out = timer(s, c, OUT);
+    let left = half(timer(s, c, VALUE), (out == 1) & (timer(s, c, ODD) == 1));
+    let pulses = n % 65536;
+    if pulses < left {
+        let value = down_by_twos(timer(s, c, VALUE), pulses);
+        return still(set_timer(s, c, VALUE, value));
     }
-    if timer(s, c, WAITING) == 1 {
-        return falling(transfer(s, c), c, left - 1);
+    let count = timer(s, c, COUNT);
+    let high = half(count, count % 2 == 1);
+    let round = high + half(count, false);
+    // The half that ran on has the parity of its own count. With its end begins a half of the last complete count.
+    let since = pulses - left + choose(out == 1, high, 0) % 65536;
+    let into = since % round;
+    let rises = since / round % 65536 + number(out == 0);
+    let loaded = set_timer(s, c, ODD, count % 2);
+    if into < high {
+        let value = down_by_twos(count, into);
+        return pulsed(
+            set_timer(set_timer(loaded, c, VALUE, value), c, OUT, 1),
+            rises,
+        );
     }
-    falling(s, c, left)
+    let value = down_by_twos(count, into - high);
+    pulsed(
+        set_timer(set_timer(loaded, c, VALUE, value), c, OUT, 0),
+        rises,
+    )
 }
 
-// Mode 2 counts while GATE is high.
-fn turning(s: State, c: u32, n: u32) -> Ticked {
-    if timer(s, c, GATE) == 1 {
-        return run_round(s, c, n);
-    }
-    still(s)
-}
-
-// The trigger's reload, where OUT may rise, and the pulses after it.
-fn reload(s: State, c: u32, n: u32) -> Ticked {
-    let after = turning(set_timer(transfer(s, c), c, OUT, 1), c, n);
-    let next = after.s;
-    pulsed(next, after.rises % 65536 + number(timer(s, c, OUT) == 0))
-}
-
-fn pulses_of_2(s: State, c: u32, n: u32) -> Ticked {
-    let left = n % 65536;
-    if left == 0 {
+// n pulses of modes 4 and 5 with the count in place and counting. The first ends a strobe; another strobe lasts from the pulse that makes the value 0
+// to the next.
+fn run_to_strobe(s: State, c: u32, n: u32) -> Ticked {
+    let left = steps(timer(s, c, VALUE));
+    let pulses = n % 65536;
+    if pulses == 0 {
         return still(s);
     }
-    if timer(s, c, WAITING) == 1 {
-        return turning(transfer(s, c), c, left - 1);
+    let ended = number((timer(s, c, OUT) == 0) & (left > 1));
+    let value = (left + 65536 - pulses) % 65536;
+    let next = set_timer(
+        set_timer(s, c, VALUE, value),
+        c,
+        OUT,
+        number(pulses != left),
+    );
+    pulsed(next, ended + number(pulses > left))
+}
+
+// Whether a pulse that transfers nothing counts.
+fn counts(s: State, c: u32) -> bool {
+    let mode = timer(s, c, MODE);
+    if has(SHOT, mode) {
+        return timer(s, c, LOADED) == 1;
     }
-    if timer(s, c, TRIGGER) == 1 {
-        return reload(s, c, left - 1);
+    // Only mode 0 waits for the second byte of a count.
+    (timer(s, c, GATE) == 1) & ((mode != 1) | (timer(s, c, HALVED) == 0))
+}
+
+// n pulses that don't count: the first ends a strobe all the same.
+fn pass(s: State, c: u32, n: u32) -> Ticked {
+    if has(STROBED, timer(s, c, MODE)) & (n > 0) {
+        return pulsed(set_timer(s, c, OUT, 1), number(timer(s, c, OUT) == 0));
     }
-    turning(s, c, left)
+    still(s)
+}
+
+// n pulses with nothing to transfer but what mode 2 or 3 transfers at its own end.
+fn run(s: State, c: u32, n: u32) -> Ticked {
+    let mode = timer(s, c, MODE);
+    if !counts(s, c) {
+        return pass(s, c, n);
+    }
+    match mode {
+        1 => run_down(s, c, n),
+        2 => run_down(s, c, n),
+        3 => run_round(s, c, n),
+        4 => run_halves(s, c, n),
+        _ => run_to_strobe(s, c, n),
+    }
+}
+
+// Mode 3 counts by twos, from the count without its lowest bit.
+fn transfer(s: State, c: u32) -> State {
+    let count = timer(s, c, COUNT) % 65536;
+    let value = choose(timer(s, c, MODE) == 4, count / 2 * 2, count);
+    let loaded = set_timer(set_timer(s, c, VALUE, value), c, ODD, count % 2);
+    let used = set_timer(set_timer(loaded, c, WAITING, 0), c, TRIGGER, 0);
+    set_timer(used, c, LOADED, 1)
+}
+
+// A pulse that transfers and leaves OUT as given, and n pulses after it.
+fn restart(s: State, c: u32, out: u32, n: u32) -> Ticked {
+    let after = run(set_timer(transfer(s, c), c, OUT, out), c, n);
+    let next = after.s;
+    pulsed(next, after.rises % 65536 + number(out > timer(s, c, OUT)))
 }
 
 // n pulses of one counter, and how many made its OUT rise.
 fn pulses(s: State, c: u32, n: u32) -> Ticked {
     let mode = timer(s, c, MODE);
+    let left = n % 65536;
+    if left == 0 {
+        return still(s);
+    }
     if timer(s, c, COMPLETE) == 0 {
         return still(s);
     }
-    match mode {
-        1 => pulses_of_0(s, c, n),
-        2 => pulses_of_2(s, c, n),
-        _ => still(s),
+    // The complete count itself: it ends a strobe of mode 4 and leaves OUT in the other modes.
+    if (timer(s, c, WAITING) == 1) & !has(SHOT, mode) {
+        return restart(s, c, choose(mode == 5, 1, timer(s, c, OUT)), left - 1);
     }
+    // The trigger begins the low pulse of mode 1, and sets OUT high in the other modes.
+    if timer(s, c, TRIGGER) == 1 {
+        return restart(s, c, number(mode != 2), left - 1);
+    }
+    run(s, c, left)
 }
 
 fn gate(s: State, c: u32, level: u32) -> State {
     let was = timer(s, c, GATE);
+    let mode = timer(s, c, MODE);
     let next = set_timer(s, c, GATE, level);
-    if timer(s, c, MODE) != 2 {
-        return next;
-    }
-    if level < was {
+    if (level < was) & has(PERIODIC, mode) {
         return set_timer(next, c, OUT, 1);
     }
-    if (level > was) & (timer(s, c, COMPLETE) == 1) {
+    if (level > was) & (timer(s, c, COMPLETE) == 1) & has(TRIGGERED, mode) {
         return set_timer(next, c, TRIGGER, 1);
     }
     next
@@ -726,6 +812,37 @@ fn advance(s: State, n: u32) -> Effect {
         second: one.rises,
         third: two.rises,
         rose: number(zero.rises > 0),
+    }
+}
+
+// What the duel counts by: a counter as it stands.
+pub struct Watched {
+    // 0 to 5, or 255 with no mode.
+    pub mode: u32,
+    // Since the mode word: a count is complete, waits for its transfer (in modes 1 and 5 for the first trigger), something was loaded.
+    pub complete: u32,
+    pub waiting: u32,
+    pub triggered: u32,
+    pub count: u32,
+    pub value: u32,
+    pub out: u32,
+    pub gate: u32,
+    pub loaded: u32,
+}
+
+// Counter c modulo 3.
+pub fn watch(s: State, c: u32) -> Watched {
+    let mode = timer(s, c, MODE) % 8;
+    Watched {
+        mode: choose(mode == 0, 255, (mode + 7) % 8),
+        complete: timer(s, c, COMPLETE),
+        waiting: timer(s, c, WAITING),
+        triggered: timer(s, c, TRIGGER),
+        count: timer(s, c, COUNT),
+        value: timer(s, c, VALUE),
+        out: timer(s, c, OUT),
+        gate: timer(s, c, GATE),
+        loaded: timer(s, c, LOADED),
     }
 }
 
@@ -1066,14 +1183,6 @@ fn levels(s: State) -> u32 {
 pub struct Answered {
     pub s: State,
     pub answer: [u8; 16],
-}
-
-// A board that no record has reached yet.
-pub fn unasked(s: State) -> Answered {
-    Answered {
-        s: s,
-        answer: [0; 16],
-    }
 }
 
 fn sealed(s: State, d: Effect, status: u32, op: u32) -> Answered {

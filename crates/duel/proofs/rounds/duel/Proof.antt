@@ -6,16 +6,16 @@ use Rattle.duel.proofs.rounds.duel.Tie as tie
 use Rattle.duel.proofs.rounds.duel.Reads as reads
 use Rattle.duel.proofs.rounds.duel.Lts as lts
 use Rattle.duel.proofs.rounds.run_round.Reads as run-round-reads
-use Rattle.rival.proofs.counts.zero.Reads as zero-reads
+use Rattle.duel.proofs.rounds.none_yet.Reads as none-yet-reads
 
 abbrev Inv-loop : tie.InvT-loop
-Inv-loop n tally₀ round₀ tally round = round ≤ n
+Inv-loop n counted₀ round₀ counted round = round ≤ n
 
 abbrev μ-loop : tie.MeasureT-loop
-μ-loop n tally₀ round₀ tally round = n - round
+μ-loop n counted₀ round₀ counted round = n - round
 
-zero-requires : tie.Need-zero-requires Inv-loop μ-loop
-zero-requires c κs = search needs
+none-yet-requires : tie.Need-none-yet-requires Inv-loop μ-loop
+none-yet-requires c κs = search needs
 
 loop-holds : tie.Need-loop-holds Inv-loop μ-loop
 loop-holds c = search needs
@@ -41,7 +41,7 @@ duel-spec =
     (tie.spec
     Inv-loop
     μ-loop
-    zero-requires
+    none-yet-requires
     loop-holds
     run-round-requires
     add-round

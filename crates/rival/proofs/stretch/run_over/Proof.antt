@@ -7,13 +7,10 @@ use Rattle.rival.proofs.stretch.run_over.Statement.{statement}
 use Rattle.rival.proofs.stretch.run_over.Tie as tie
 
 abbrev Inv-loop : tie.InvT-loop
-Inv-loop tape n memory₀ answers₀ last₀ i₀ memory answers last i = (i ≤ n) × (length memory ≡ length memory₀)
+Inv-loop tape n memory₀ answers₀ ran₀ i₀ memory answers ran i = (i ≤ n) × (length memory ≡ length memory₀)
 
 abbrev μ-loop : tie.MeasureT-loop
-μ-loop tape n memory₀ answers₀ last₀ i₀ memory answers last i = n - i
-
-unasked-requires : tie.Need-unasked-requires Inv-loop μ-loop
-unasked-requires c κs = search needs
+μ-loop tape n memory₀ answers₀ ran₀ i₀ memory answers ran i = n - i
 
 loop-holds : tie.Need-loop-holds Inv-loop μ-loop
 loop-holds c = search needs
@@ -24,11 +21,8 @@ word-at-requires c κs = search needs
 word-at-requires-2 : tie.Need-word-at-requires-2 Inv-loop μ-loop
 word-at-requires-2 c κs = search needs
 
-second-step-requires : tie.Need-second-step-requires Inv-loop μ-loop
-second-step-requires c κs = search needs
-
-put-answer-requires : tie.Need-put-answer-requires Inv-loop μ-loop
-put-answer-requires c κs = search needs
+run-one-requires : tie.Need-run-one-requires Inv-loop μ-loop
+run-one-requires c κs = search needs
 
 add-i : tie.Need-add-i Inv-loop μ-loop
 add-i c = search needs
@@ -51,12 +45,10 @@ run-over-spec =
     (tie.spec
     Inv-loop
     μ-loop
-    unasked-requires
     loop-holds
     word-at-requires
     word-at-requires-2
-    second-step-requires
-    put-answer-requires
+    run-one-requires
     add-i
     loop-less
     loop-again
