@@ -153,13 +153,13 @@ static int counter_control(struct plain_board *b, unsigned data)
         }
         return DONE;
     }
-    if ((mode & 3) == 2)
-        mode = 2;
-    if ((mode != 0 && mode != 2) || data & 1)
+    if (data & 1)
         return NOT_BUILT;
+    if (mode > 5)
+        mode -= 4;
     c->mode = (byte)mode;
     c->access = (byte)access;
-    c->out = mode == 2;
+    c->out = mode != 0;
     c->armed = c->load = c->retrigger = c->partial = c->frozen = c->upper_next = 0;
     return DONE;
 }
@@ -182,15 +182,12 @@ static int counter_write(struct plain_counter *c, unsigned data)
             c->out = 0;
         return DONE;
     }
-    if (c->mode == 2) {
-        if (n == 1)
-            return COUNT_ONE;
-        if (!c->armed)
-            c->load = 1;
-    } else {
-        c->load = 1;
+    if (n == 1 && (c->mode == 2 || c->mode == 3))
+        return COUNT_ONE;
+    if (c->mode == 0)
         c->out = 0;
-    }
+    if (c->mode == 0 || c->mode == 4 || !c->armed)
+        c->load = 1;
     c->partial = 0;
     c->armed = 1;
     c->reload = (half)n;
@@ -213,9 +210,17 @@ static int counter_read(struct plain_counter *c, byte *data)
     return DONE;
 }
 
+/* Mode 3 counts in even numbers. */
+static inline void load_even(struct plain_counter *c)
+{
+    c->odd = c->reload & 1;
+    c->now = c->reload & 0xFFFE;
+}
+
 static inline void pulse(struct plain_counter *c)
 {
-    if (c->mode == 0) {
+    switch (c->mode) {
+    case 0:
         if (c->load) {
             c->now = c->reload;
             c->load = 0;
@@ -223,7 +228,18 @@ static inline void pulse(struct plain_counter *c)
             if (--c->now == 0)
                 c->out = 1;
         }
-    } else if (c->mode == 2) {
+        break;
+    case 1:
+        if (c->retrigger) {
+            c->now = c->reload;
+            c->load = c->retrigger = 0;
+            c->out = 0;
+        } else if (c->armed && !c->load) {
+            if (--c->now == 0)
+                c->out = 1;
+        }
+        break;
+    case 2:
         if (c->load) {
             c->now = c->reload;
             c->load = c->retrigger = 0;
@@ -239,17 +255,53 @@ static inline void pulse(struct plain_counter *c)
                 c->out = 0;
             }
         }
+        break;
+    case 3:
+        if (c->load) {
+            load_even(c);
+            c->load = c->retrigger = 0;
+        } else if (c->retrigger) {
+            load_even(c);
+            c->retrigger = 0;
+            c->out = 1;
+        } else if (c->armed && c->gate) {
+            if (c->now == (c->odd & c->out ? 0 : 2)) {
+                load_even(c);
+                c->out ^= 1;
+            } else {
+                c->now -= 2;
+            }
+        }
+        break;
+    case 4:
+        c->out = 1;
+        if (c->load) {
+            c->now = c->reload;
+            c->load = 0;
+        } else if (c->armed && c->gate) {
+            if (--c->now == 0)
+                c->out = 0;
+        }
+        break;
+    case 5:
+        c->out = 1;
+        if (c->retrigger) {
+            c->now = c->reload;
+            c->load = c->retrigger = 0;
+        } else if (c->armed && !c->load) {
+            if (--c->now == 0)
+                c->out = 0;
+        }
+        break;
     }
 }
 
 static void set_gate(struct plain_counter *c, unsigned level)
 {
-    if (c->mode == 2) {
-        if (c->gate && !level)
-            c->out = 1;
-        if (!c->gate && level && c->armed)
-            c->retrigger = 1;
-    }
+    if (c->gate && !level && (c->mode == 2 || c->mode == 3))
+        c->out = 1;
+    if (!c->gate && level && c->armed && c->mode != 0 && c->mode != 4)
+        c->retrigger = 1;
     c->gate = (byte)level;
 }
 
@@ -266,6 +318,7 @@ static void advance(struct plain_board *b, word pulses, byte *answer)
     word rises[3] = {0, 0, 0};
     while (pulses--) {
         unsigned was = lines_of(b);
+#pragma clang loop unroll(full) /* so that the fields of each counter have fixed places */
         for (int i = 0; i < 3; i++) {
             byte out = b->counter[i].out;
             pulse(&b->counter[i]);
@@ -546,8 +599,8 @@ static int in_range(const struct plain_board *b)
     good = good && (p->by_level | p->spaced4 | p->wants_iw4 | p->self_finish | p->vectored | p->rotating | p->shows_service) < 2;
     for (int i = 0; i < 3; i++) {
         const struct plain_counter *c = &b->counter[i];
-        good = good && (c->mode == 0 || c->mode == 2 || c->mode == NO_MODE) && c->access < 4;
-        good = good && (c->armed | c->load | c->retrigger | c->partial | c->frozen | c->upper_next | c->gate | c->out) < 2;
+        good = good && (c->mode <= 5 || c->mode == NO_MODE) && c->access < 4;
+        good = good && (c->armed | c->load | c->retrigger | c->partial | c->frozen | c->upper_next | c->gate | c->out | c->odd) < 2;
     }
     for (int i = 0; i < 4; i++) {
         const struct plain_channel *c = &d->channel[i];

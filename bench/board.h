@@ -19,14 +19,15 @@ struct plain_pic {
 };
 
 struct plain_counter {
-    byte mode;    /* 0, 2, or NO_MODE */
+    byte mode;    /* 0 to 5, or NO_MODE */
     byte access;  /* 1 low, 2 high, 3 both */
     byte armed;   /* a count is complete */
-    byte load;    /* the next pulse transfers */
+    byte load;    /* the next pulse transfers; in modes 1 and 5 that of the first trigger */
     byte retrigger;
     byte partial, partial_low;
     byte frozen, upper_next;
     byte gate, out;
+    byte odd;     /* mode 3: the count in `now` was odd */
     half now, reload, snapshot;
 };
 

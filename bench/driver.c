@@ -88,7 +88,7 @@ static void set_up(void) /* interrupt chip ready, edge trigger, vectors */
 /* One record of a mixed tape; about wild in a hundred have one byte at random. */
 static void put_mixed(unsigned wild, unsigned pulses)
 {
-    static const byte control[] = {0, 4, 4, 0xC, 2, 0};
+    static const byte control[] = {0, 4, 4, 0xC, 2, 0}; /* modes 0, 2 and 1 */
     unsigned k = below(24);
     switch (k) {
     case 0: put(1, 0x00, below(256) | 0x12); break;
@@ -119,6 +119,19 @@ static void put_mixed(unsigned wild, unsigned pulses)
         memset(tape + size - 8, 0, 8);
 }
 
+/* One record for the timer: every mode, whole and half counts, gates that rise and fall, and now and then pulses enough for any count. */
+static void put_timer(unsigned pulses)
+{
+    switch (below(8)) {
+    case 0: put(1, 0x13, below(3) << 6 | below(4) << 4 | below(8) << 1); break;
+    case 1:
+    case 2: put(1, 0x10 + below(3), below(2) ? below(4) : below(256)); break;
+    case 3: put(3, 1, below(8)); break;
+    case 4: put(2, 0x10 + below(3), 0); break;
+    default: put_advance(below(5000) ? below(pulses) : 65535 - below(4));
+    }
+}
+
 /* ---- comparison ---- */
 
 static void show(const char *who, const byte *at, int n)
@@ -147,6 +160,21 @@ static void compare(const char *what, length records, length memory_length)
         }
 }
 
+/* What the counters of the plain board are at after each lump, by mode: how many, and how many of these each word of `states` is true of. */
+enum { MODES = 6, STATES = 7 };
+static const char *const states[STATES] = {"counters", "load waits", "trigger waits", "half a count", "latched", "gate low", "OUT low"};
+static unsigned long stands[MODES][STATES];
+
+static void note_counters(void)
+{
+    for (int i = 0; i < 3; i++) {
+        const struct plain_counter *c = &plain.counter[i];
+        const byte is[STATES] = {1, c->load, c->retrigger, c->partial, c->frozen, !c->gate, !c->out};
+        for (int s = 0; c->mode < MODES && s < STATES; s++)
+            stands[c->mode][s] += is[s];
+    }
+}
+
 static void compare_random(unsigned long seed, unsigned long tapes)
 {
     unsigned long all = 0, seen[7][8] = {{0}};
@@ -155,11 +183,14 @@ static void compare_random(unsigned long seed, unsigned long tapes)
         below(2);
         size = 0;
         length memory_length = below(3) == 0 ? 0 : below(2) ? below(200) : 70000;
-        unsigned wild = below(3) * 4, pulses = below(4) ? 6 : 400, records = 200 + below(3000);
+        unsigned wild = below(3) * 4, pulses = below(4) ? 6 : 400, records = 200 + below(3000), timer = below(3) * 40;
         if (below(2))
             set_up();
         while (size < 8 * records)
-            put_mixed(wild, pulses);
+            if (below(100) < timer)
+                put_timer(pulses);
+            else
+                put_mixed(wild, pulses);
         size -= below(8);
         memcpy(memory[0], start_memory, memory_length), memcpy(memory[1], start_memory, memory_length);
         fresh();
@@ -174,6 +205,8 @@ static void compare_random(unsigned long seed, unsigned long tapes)
                     printf("bench: status %d of a whole call\n", status), exit(1);
                 done[who] += taken;
                 at += lump;
+                if (feed[who] == feed_plain)
+                    note_counters();
             }
         if (done[0] != done[1])
             printf("bench: the boards took %lu and %lu records\n", done[0], done[1]), exit(1);
@@ -189,6 +222,16 @@ static void compare_random(unsigned long seed, unsigned long tapes)
         printf("  op %d:", op);
         for (int s = 0; s < 7; s++)
             printf(" %lu", seen[op][s]);
+        printf("\n");
+    }
+    printf("  counters after each lump, by mode:");
+    for (int s = 0; s < STATES; s++)
+        printf("%s %s", s ? "," : "", states[s]);
+    printf("\n");
+    for (int m = 0; m < MODES; m++) {
+        printf("  mode %d:", m);
+        for (int s = 0; s < STATES; s++)
+            printf(" %lu", stands[m][s]);
         printf("\n");
     }
 }
@@ -230,20 +273,24 @@ static void sort(double *x, int n)
         }
 }
 
-enum { NO_MODE, RUNNING, GATES_LOW };
+enum { NO_MODE, RUNNING, GATES_LOW, TRIGGERED, WAVES };
 
 static double pulses_tape(length advances, length how)
 {
-    static const byte modes[3] = {0x34, 0x74, 0xB0}, low[3] = {3, 0xE8, 0}, high[3] = {0, 3, 0};
+    static const byte word[][3] = {{0}, {0x34, 0x74, 0xB0}, {0x34, 0x74, 0xB0}, {0x32, 0x76, 0xBA}, {0x36, 0x76, 0xB8}};
+    static const half count[][3] = {{0}, {3, 1000, 0}, {3, 1000, 0}, {40000, 3, 1000}, {3, 1000, 0}};
     size = 0;
     set_up();
     for (unsigned c = 0; how != NO_MODE && c < 3; c++)
-        put(1, 0x13, modes[c]), put(1, 0x10 + c, low[c]), put(1, 0x10 + c, high[c]);
+        put(1, 0x13, word[how][c]), put(1, 0x10 + c, count[how][c] & 255), put(1, 0x10 + c, count[how][c] >> 8);
     put_advance(1);
     if (how == GATES_LOW)
         put(3, 1, 0);
-    for (length i = 0; i < advances; i++)
+    for (length i = 0; i < advances; i++) {
+        if (how == TRIGGERED)
+            put(3, 1, 0), put(3, 1, 7);
         put_advance(65535);
+    }
     return (double)advances * 65535;
 }
 
@@ -297,6 +344,8 @@ struct line {
 
 static const struct line lines[] = {
     {"running", "pulse, three counters running", pulses_tape, 20, RUNNING, 0, 0},
+    {"triggered", "pulse, three counters in modes 1, 3 and 5", pulses_tape, 20, TRIGGERED, 0, 0},
+    {"waves", "pulse, three counters in modes 3, 3 and 4", pulses_tape, 20, WAVES, 0, 0},
     {"idle", "pulse, idle (no mode set)", pulses_tape, 20, NO_MODE, 0, 0},
     {"gates", "pulse, idle (gates low)", pulses_tape, 20, GATES_LOW, 0, 0},
     {"mixed", "record, mixed", mixed_tape, 200000, 200000, 0, 0},
