@@ -92,7 +92,7 @@ fn layout() {
     for i in 0..3 {
         let from = offset_of!(Board, timer.counters) + i * size_of::<Counter>();
         show_all!(Counter, format!("timer.counters[{i}]."), from; mode, format, value, count, full, pending, trigger, half, low, latched,
-            latch, second, gate, out);
+            latch, second, gate, out, odd);
     }
     for i in 0..4 {
         let from = offset_of!(Board, dma.channels) + i * size_of::<Channel>();

@@ -52,7 +52,7 @@ static void list_fields(void)
     BOARD(icu.edges) BOARD(icu.isr) BOARD(icu.imr) BOARD(icu.lowest) BOARD(intp)
     for (i = 0; i < 3; i++) {
         COUNTER(mode) COUNTER(format) COUNTER(value) COUNTER(count) COUNTER(full) COUNTER(pending) COUNTER(trigger)
-        COUNTER(half) COUNTER(low) COUNTER(latched) COUNTER(latch) COUNTER(second) COUNTER(gate) COUNTER(out)
+        COUNTER(half) COUNTER(low) COUNTER(latched) COUNTER(latch) COUNTER(second) COUNTER(gate) COUNTER(out) COUNTER(odd)
     }
     for (i = 0; i < 4; i++) {
         CHANNEL(current.address) CHANNEL(current.count) CHANNEL(base.address) CHANNEL(base.count) CHANNEL(mode) CHANNEL(masked)
@@ -91,6 +91,7 @@ static const struct pair {
     {3, "M24 W1#=12 A1 G", "L1=7", "timer.counters[#].gate=1 timer.counters[#].trigger=1"},
     {3, "M24 W1#=12 A1", "M00", "timer.counters[#].latched=1 timer.counters[#].latch=1200"},
     {3, "M34 W1#=34 W1#=12 A1", "R1#", "timer.counters[#].second=1"},
+    {3, "M16 W1#=13", "A1", "timer.counters[#].value=12 timer.counters[#].pending=0 timer.counters[#].odd=1"},
     {4, "S4", "W22=34", "dma.channels[#].base.count=34"},
     {4, "S4", "W23=34", "dma.channels[#].base.count=3400"},
     {4, "S4", "W26=AB", "dma.channels[#].base.address=AB0000"},

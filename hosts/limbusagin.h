@@ -31,7 +31,7 @@ typedef unsigned int limbusagin_u32;
 typedef unsigned long limbusagin_size;
 
 /* The version of these declarations. A host compares it with what limbusagin_version() answers. */
-#define LIMBUSAGIN_VERSION 1u
+#define LIMBUSAGIN_VERSION 2u
 
 /* Bytes of a record and of its answer. A call that completes k records needs room for 16 * k bytes of answers. */
 #define LIMBUSAGIN_RECORD 8u
@@ -54,13 +54,13 @@ struct limbusagin_icu {
 
 /* One counter of the timer, 71054. */
 struct limbusagin_counter {
-    limbusagin_u8 mode;        /* 0, 2, or 255: none yet */
+    limbusagin_u8 mode;        /* 0 to 5, or 255: none yet */
     limbusagin_u8 format;      /* 0 none yet, 1 low byte, 2 high byte, 3 both */
     limbusagin_u16 value;      /* the down counter */
     limbusagin_u16 count;      /* the last complete count */
     limbusagin_bool full;      /* a count is complete since the mode word */
-    limbusagin_bool pending;   /* a complete count waits for the pulse that transfers it */
-    limbusagin_bool trigger;   /* GATE rose: the next pulse of mode 2 reloads */
+    limbusagin_bool pending;   /* a complete count waits for the pulse that transfers it; in modes 1 and 5 that of the first trigger */
+    limbusagin_bool trigger;   /* GATE rose: the next pulse of modes 1, 2, 3 and 5 loads the last complete count */
     limbusagin_bool half;      /* a count is half written; its low byte is in low */
     limbusagin_u8 low;
     limbusagin_bool latched;   /* latch holds what reads show */
@@ -68,6 +68,7 @@ struct limbusagin_counter {
     limbusagin_bool second;    /* the next read of two is the high byte */
     limbusagin_bool gate;
     limbusagin_bool out;
+    limbusagin_bool odd;       /* the running count of mode 3 was odd */
 };
 
 struct limbusagin_timer {

@@ -23,7 +23,7 @@
 use core::fmt;
 
 /// The version of these declarations. [`version`] answers the library's.
-pub const VERSION: u32 = 1;
+pub const VERSION: u32 = 2;
 /// Bytes of a record.
 pub const RECORD: usize = 8;
 /// Bytes of an answer.
@@ -58,7 +58,7 @@ pub struct Icu {
 #[repr(C)]
 #[derive(Clone, Copy, Debug, PartialEq, Eq)]
 pub struct Counter {
-    /// 0, 2, or 255: none yet
+    /// 0 to 5, or 255: none yet
     pub mode: u8,
     /// 0 none yet, 1 low byte, 2 high byte, 3 both
     pub format: u8,
@@ -68,9 +68,9 @@ pub struct Counter {
     pub count: u16,
     /// a count is complete since the mode word
     pub full: bool,
-    /// a complete count waits for the pulse that transfers it
+    /// a complete count waits for the pulse that transfers it; in modes 1 and 5 that of the first trigger
     pub pending: bool,
-    /// GATE rose: the next pulse of mode 2 reloads
+    /// GATE rose: the next pulse of modes 1, 2, 3 and 5 loads the last complete count
     pub trigger: bool,
     /// a count is half written; its low byte is in `low`
     pub half: bool,
@@ -82,6 +82,8 @@ pub struct Counter {
     pub second: bool,
     pub gate: bool,
     pub out: bool,
+    /// the running count of mode 3 was odd
+    pub odd: bool,
 }
 
 #[repr(C)]

@@ -23,7 +23,7 @@ def likely(r):
     if k == 2:
         return record(1, 0x00, r.randrange(256) & 0xEF)
     if k == 3:
-        return record(1, 0x13, r.randrange(3) << 6 | r.randrange(4) << 4 | r.choice([0, 4, 4, 0xC, 2]))
+        return record(1, 0x13, r.randrange(3) << 6 | r.randrange(4) << 4 | r.randrange(8) << 1)
     if k in (4, 5):
         return record(1, 0x10 + r.randrange(3), r.choice([0, 1, 2, 3, r.randrange(256)]))
     if k == 6:
@@ -78,6 +78,13 @@ def main(folder):
             record(1, 0x00, 0x13) + record(1, 0x01, 0x40) + record(1, 0x01, 0x01)
             + b"".join(record(1, 0x13, c << 6 | 0x14) + record(1, 0x10 + c, 5 + c) for c in range(3))
             + b"".join(advance(65535 - i) + record(4) + record(1, 0x00, 0x20) for i in range(6)), 0),
+        "modes": (
+            record(1, 0x00, 0x13) + record(1, 0x01, 0x40) + record(1, 0x01, 0x01)
+            + b"".join(
+                b"".join(record(1, 0x13, c << 6 | 0x10 | mode << 1) + record(1, 0x10 + c, 4 + c) for c in range(3))
+                + record(3, 1, 0) + record(3, 1, 7)
+                + b"".join(advance(1) + b"".join(record(2, 0x10 + c) for c in range(3)) for _ in range(20))
+                + advance(65535) + record(4) + record(1, 0x00, 0x20) for mode in range(6)), 0),
         "block": (
             record(1, 0x2A, 0x84) + record(1, 0x23, 0x10) + record(1, 0x2F, 0x0E) + record(3, 2, 1)
             + b"".join(record(6, 0, i & 255) for i in range(4100)), 4000),
