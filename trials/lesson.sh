@@ -476,25 +476,49 @@ trial_lesson_names_shown() { # control characters in a name are shown, not sent,
 # The answer column, as one line.
 answer_column() { cut -c38-72 out | tr -s ' \n' ' '; }
 
-trial_lesson_status_6() { # status 6 in a two-byte count says that the low byte is kept, and what to write next; in a one-byte count it does not
-    printf 'write 13 34\nwrite 10 01\nwrite 10 00\n' >two
-    printf 'write 13 14\nwrite 10 01\n' >one
-    start lesson two
-    status_is 0
-    expect 'the end' 'records: 3, refused: 1' "$(grep ^records out)"
-    column=$(answer_column)
-    for part in '6: a count of 1 is not for mode 2' 'low byte is kept' 'high byte' 'control word again'; do
-        case $column in *"$part"*) ;; *) wrong 'the row' "'$part'" "$column" ;; esac
+# row_says PART: the answer column of the last run has it.
+row_says() { case $(answer_column) in *"$1"*) ;; *) wrong 'the row' "'$1'" "$(answer_column)" ;; esac; }
+
+trial_lesson_status_6() { # status 6, of modes 2 and 3, says in a two-byte count that the low byte is kept, and what to write next; in a one-byte count it does not
+    for mode in 4 6; do
+        printf 'write 13 3%s\nwrite 10 01\nwrite 10 00\n' "$mode" >two
+        printf 'write 13 1%s\nwrite 10 01\n' "$mode" >one
+        start lesson two
+        status_is 0
+        expect 'the end' 'records: 3, refused: 1' "$(grep ^records out)"
+        for part in '6: a count of 1 is not for modes 2 and 3' 'low byte is kept' 'high byte' 'control word again'; do row_says "$part"; done
+        awk 'length > 80 { exit 1 }' out || wrong 'columns of a row' '80 at the most' "$(awk 'length > 80' out)"
+        start lesson one
+        row_says '6: a count of 1 is not for modes 2 and 3'
+        column=$(answer_column)
+        case $column in *'low byte'*) wrong 'the row of a one-byte count' 'nothing about a low byte' "$column" ;; esac
+        # and that is what the board does: the high byte alone makes the count good
+        printf 'write 13 3%s\nwrite 10 01\nwrite 10 00\nwrite 10 01\n' "$mode" >two
+        start lesson two
+        expect 'the end' 'records: 4, refused: 1' "$(grep ^records out)"
     done
-    awk 'length > 80 { exit 1 }' out || wrong 'columns of a row' '80 at the most' "$(awk 'length > 80' out)"
-    start lesson one
-    column=$(answer_column)
-    case $column in *'low byte'*) wrong 'the row of a one-byte count' 'nothing about a low byte' "$column" ;; esac
-    case $column in *'6: a count of 1 is not for mode 2'*) ;; *) wrong 'the row' 'status 6' "$column" ;; esac
-    # and that is what the board does: the high byte alone makes the count good
-    printf 'write 13 34\nwrite 10 01\nwrite 10 00\nwrite 10 01\n' >two
-    start lesson two
-    expect 'the end' 'records: 4, refused: 1' "$(grep ^records out)"
+    # the other modes take a count of 1
+    for mode in 0 2 8 A; do
+        printf 'write 13 1%s\nwrite 10 01\nwrite 13 3%s\nwrite 10 01\nwrite 10 00\n' "$mode" "$mode" >x
+        start lesson x
+        expect 'the end' 'records: 5, refused: 0' "$(grep ^records out)"
+    done
+}
+
+trial_lesson_modes() { # a control word is shown with its mode, 0 to 5 by eight codes, and taken; with BCD it is refused, and the row says why
+    for code in '0 1 0' '2 3 1' '4 5 2' '6 7 3' '8 9 4' 'A B 5' 'C D 2' 'E F 3'; do
+        # shellcheck disable=SC2086
+        set -- $code
+        printf 'write 13 1%s\nread 10\n' "$1" >x
+        start lesson x
+        status_is 0
+        expect 'the end' 'records: 2, refused: 0' "$(grep ^records out)"
+        grep -q "control: 1$1 (mode $3, done " out || wrong 'the row' "mode $3" "$(sed -n 3p out)"
+        printf 'write 13 1%s\n' "$2" >x
+        start lesson x
+        expect 'the end' 'records: 1, refused: 1' "$(grep ^records out)"
+        grep -q "control: 1$2 (mode $3, 4: not built, counting in BCD " out || wrong 'the row' "mode $3, BCD" "$(sed -n 3p out)"
+    done
 }
 
 # A lesson in which channel 0, in the given mode, moves two bytes at the addresses 2 and 3.

@@ -113,7 +113,7 @@ pub fn answered(n: u8, facts: [u8; 16]) -> Text {
 23 3: out of turn
 24 4: not built
 25 5: acknowledge, and INT is low
-26 6: count 1 in mode 2
+26 6: count 1 in mode 2 or 3
 27 %008: no status that a record can have
 ",
         n,
@@ -159,7 +159,6 @@ pub fn refused(n: u8, facts: [u8; 16]) -> Text {
 42 4: not built, the exceptional nesting mode
 43 4: not built, the multiple latch; there are counters 0 to 2
 44 4: not built, counting in BCD
-45 4: not built, timer modes other than 0 and 2
 46 4: not built, 16-bit transfers (D1)
 47 4: not built, bits of device control other than D4 and D2
 48 4: not built, any bit of device control high; write 00
@@ -172,7 +171,7 @@ pub fn refused(n: u8, facts: [u8; 16]) -> Text {
 51 5: INT is low, every level that asks is masked
 52 5: INT is low, level %A08 is in service and not outranked
 
-60 %808: a count of 1 is not for mode 2; the least is 2{B01|. The low byte is kept: write the high byte next, or the control word again}
+60 %808: a count of 1 is not for modes 2 and 3; the least is 2{B01|. The low byte is kept: write the high byte next, or the control word again}
 ",
         n,
         facts,
