@@ -25,22 +25,25 @@ timer-is t b = record { icu = b .icu; intp = b .intp; timer = t; dma = b .dma; k
 abbrev pub dma-is : Dma → Board → Board
 dma-is d b = record { icu = b .icu; intp = b .intp; timer = b .timer; dma = d; kept = b .kept }
 
--- Reset: the three chips at their own, INTP and the DMA requests low. The bytes of a cut record stay.
+-- Reset: each chip as after its own reset, INTP and the DMA requests low. The bytes of a cut record stay.
 abbrev pub resetOf : Board → Board
 resetOf b =
     record { icu = IcuWords.resetOf; intp = 0; timer = resetsOf; dma = DmaRegisters.resetOf; kept = b .kept }
 
--- A board that was never fed.
 abbrev pub nothingKept : Kept
 nothingKept = record { bytes = 0 ∷ 0 ∷ 0 ∷ 0 ∷ 0 ∷ 0 ∷ 0 ∷ []; length = 0 }
 
+-- A board that was never fed.
 unfoldable pub freshOf : Board
 freshOf =
     record { icu = IcuWords.resetOf; intp = 0; timer = resetsOf; dma = DmaRegisters.resetOf; kept = nothingKept }
 
 -- The eight lines of the interrupt chip: INTP1 to INTP7, and OUT0 as line 0.
+abbrev pub linesBy : ℕ → Bool → ℕ
+linesBy intp out0 = if out0 then withOf intp 0 else withoutOf intp 0
+
 unfoldable pub linesAt : ℕ → Timer → ℕ
-linesAt intp t = if at t 0 .out then withOf intp 0 else withoutOf intp 0
+linesAt intp t = linesBy intp (at t 0 .out)
 
 abbrev pub lines : Board → ℕ
 lines b = linesAt (b .intp) (b .timer)

@@ -1,6 +1,6 @@
 // The board: the three chips and their wiring, and what each record of a tape does to them.
 ghost use mathlib.Core.Path.{_≡_};
-ghost use mathlib.Core.Bool.{Bool};
+ghost use mathlib.Core.Bool.{Bool, not};
 ghost use mathlib.Core.List.{_++_, _∷_, []};
 ghost use Prim.Native.Nat.{_+_, _*_, _≤_, _<_};
 ghost use lib.ListN.{length, take, drop};
@@ -14,7 +14,7 @@ ghost use Rattle.icu.specs.Requests.{linesOf};
 ghost use Rattle.tape.specs.Records.{heldOf, usesBus};
 ghost use Rattle.tape.specs.Answers.{twelve, littleOf, answerOf};
 ghost use Rattle.dma.specs.Report.{told};
-ghost use Rattle.board.specs.Wiring.{linesAt, levelsOf, freshOf, levelsAt, wiredTo};
+ghost use Rattle.board.specs.Wiring.{linesBy, linesAt, levelsOf, freshOf, levelsAt, wiredTo};
 ghost use Rattle.board.specs.Operations.{turnOf, flagOf, payloadOf};
 ghost use Rattle.board.specs.Advance.{advancedOf, risesPayload};
 ghost use Rattle.board.specs.Step.{stepOf, stepMemory};
@@ -72,18 +72,34 @@ pub struct Run {
     pub rises: [u32; 3],
 }
 
-// The interrupt chip's eight lines.
-fn lines_at(intp: u8, timer: Timer) -> u8
-    ensures { λ r. ⌜ r ≡ linesAt intp timer ⌝ }
+// The interrupt chip's eight lines, line 0 at a level.
+fn lines_by(intp: u8, out0: bool) -> u8
+    ensures { λ r. ⌜ r ≡ linesBy intp out0 ⌝ }
 {
-    let c = timer.counters[0];
-    if c.out {
+    if out0 {
         return bits::with(intp, 0);
     }
     bits::without(intp, 0)
 }
 
-// n pulses, counter by counter. The interrupt chip keeps no more of them than that OUT0 rose.
+fn lines_at(intp: u8, timer: Timer) -> u8
+    ensures { λ r. ⌜ r ≡ linesAt intp timer ⌝ }
+{
+    let c = timer.counters[0];
+    lines_by(intp, c.out)
+}
+
+// The level of OUT0 before its last change: where it rose, the other one than now.
+fn before_change(was: bool, now: bool, rises: u32) -> bool
+    ensures { λ r. ⌜ r ≡ (if ltb 0 rises then not now else was) ⌝ }
+{
+    if 0 < rises {
+        return !now;
+    }
+    was
+}
+
+// n pulses, counter by counter. The interrupt chip keeps no more of them than the last change of OUT0.
 fn run_pulses(timer: Timer, icu: Icu, intp: u8, n: u32) -> Run
     ensures { λ r. ⌜ r ≡ advancedOf intp timer icu n ⌝ }
 {
@@ -108,17 +124,10 @@ fn run_pulses(timer: Timer, icu: Icu, intp: u8, n: u32) -> Run
         counters: [na, nb, nc],
     };
     let rises = [ra.rises, rb.rises, rc.rises];
-    if 0 < ra.rises {
-        let next = icu.lines(bits::without(intp, 0), bits::with(intp, 0));
-        return Run {
-            timer: after,
-            icu: next,
-            rises: rises,
-        };
-    }
+    let from = before_change(a.out, na.out, ra.rises);
     Run {
         timer: after,
-        icu: icu,
+        icu: icu.lines(lines_by(intp, from), lines_by(intp, na.out)),
         rises: rises,
     }
 }
@@ -302,14 +311,6 @@ fn acknowledge(icu: Icu, lines: u8) -> Turn
             return Turn {
                 icu: icu,
                 status: 3,
-                byte: 0,
-                payload: [0u8; 12],
-            };
-        }
-        Acknowledged::IntLow => {
-            return Turn {
-                icu: icu,
-                status: 5,
                 byte: 0,
                 payload: [0u8; 12],
             };

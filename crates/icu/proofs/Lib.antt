@@ -2,3 +2,4 @@ pub mod Ranks
 pub mod Int
 pub mod Once
 pub mod Command
+pub mod Served

@@ -9,7 +9,7 @@ use Rattle.icu.specs.declared.Written.the-variants.{Taken, OutOfTurn, No
 use Rattle.icu.specs.declared.Got.{Got}
 use Rattle.icu.specs.declared.Got.the-variants.{Shown, NotReady}
 use Rattle.icu.specs.declared.Acknowledged.{Acknowledged}
-use Rattle.icu.specs.declared.Acknowledged.the-variants.{Vector, Call, Unready, IntLow}
+use Rattle.icu.specs.declared.Acknowledged.the-variants.{Vector, Call, Unready}
 use Rattle.icu.specs.Answers.{Told, writtenAs, gotAs, acknowledgedAs}
 
 -- the answer that tells this
@@ -24,8 +24,7 @@ acknowledgedOf t =
     if eqb (t .status) 0 then
     (if eqb (getD (t .payload) 0 0) 205 then Call (t .icu) (getD (t .payload) 1 0) (getD (t .payload) 2 0)
     else Vector (t .icu) (t .byte))
-    else if eqb (t .status) 3 then Unready
-    else IntLow
+    else Unready
 
 written-back : (c : Icu) (r : Written) → writtenOf (writtenAs c r) ≡ r
 unfolding writtenOf
@@ -43,7 +42,6 @@ unfolding acknowledgedOf
 acknowledged-back c (Vector d x) = refl
 acknowledged-back c (Call d low high) = refl
 acknowledged-back c Unready = refl
-acknowledged-back c IntLow = refl
 
 module _ (c : Icu) where
   pub one-written : (r s : Written) → writtenAs c r ≡ writtenAs c s → r ≡ s

@@ -7,7 +7,7 @@ use Rattle.icu.specs.declared.Written.the-variants.{Taken, OutOfTurn, No
 use Rattle.icu.specs.declared.Got.{Got}
 use Rattle.icu.specs.declared.Got.the-variants.{Shown, NotReady}
 use Rattle.icu.specs.declared.Acknowledged.{Acknowledged}
-use Rattle.icu.specs.declared.Acknowledged.the-variants.{Vector, Call, Unready, IntLow}
+use Rattle.icu.specs.declared.Acknowledged.the-variants.{Vector, Call, Unready}
 
 pub record Told : Type 0 where
   pub status : ℕ
@@ -31,7 +31,7 @@ calling c low high = record { status = 0; icu = c; byte = 0; payload = 205 ∷ l
 abbrev pub refused : ℕ → Icu → Told
 refused n c = record { status = n; icu = c; byte = 0; payload = [] }
 
--- The numbers: 3 out of turn, 4 not built, 5 acknowledge with INT low.
+-- The numbers: 3 out of turn, 4 not built.
 abbrev pub writtenAs : Icu → Written → Told
 writtenAs c (Taken d) = done d
 writtenAs c OutOfTurn = refused 3 c
@@ -45,4 +45,3 @@ abbrev pub acknowledgedAs : Icu → Acknowledged → Told
 acknowledgedAs c (Vector d x) = telling d x
 acknowledgedAs c (Call d low high) = calling d low high
 acknowledgedAs c Unready = refused 3 c
-acknowledgedAs c IntLow = refused 5 c

@@ -10,7 +10,7 @@ use Rattle.icu.specs.Ranks.{highestOf}
 use Rattle.icu.specs.Words.{ready, ag4}
 use Rattle.icu.specs.Requests.{irrOf, askedOf, intOf}
 
--- The level acknowledged: the highest-ranked one requested and unmasked.
+-- The level that an acknowledge takes while INT is high: the highest-ranked one requested and unmasked.
 abbrev pub takes : Icu → ℕ → ℕ
 takes c lines = highestOf (askedOf c lines) (c .lowest)
 
@@ -29,14 +29,16 @@ vectorOf c n = c .iw2 / 8 * 8 + n % 8
 unfoldable pub callLowOf : Icu → ℕ → ℕ
 callLowOf c n = if ag4 c then c .iw1 / 32 * 32 + (n % 8) * 4 else c .iw1 / 64 * 64 + (n % 8) * 8
 
--- Acknowledge: out of turn before the chip is ready, refused with INT low.
+-- The chip d, with the bytes by which c names level n to the processor: a vector, or a CALL.
+abbrev pub naming : Icu → ℕ → Icu → Told
+naming c n d = if c .vector then telling d (vectorOf c n) else calling d (callLowOf c n) (c .iw2)
+
+-- Acknowledge: out of turn before the chip is ready. With INT low, whether nothing is requested or what is requested is masked or outranked, the chip
+-- answers as level 7 and stays as it was: no ISR bit is set, no request goes, and nothing rotates.
 unfoldable pub acknowledgeOf : Icu → ℕ → Told
 acknowledgeOf c lines =
     if ready c then
-    (if intOf c lines then
-    (if c .vector then telling (servedOf c (takes c lines)) (vectorOf c (takes c lines))
-    else calling (servedOf c (takes c lines)) (callLowOf c (takes c lines)) (c .iw2))
-    else refused 5 c)
+    (if intOf c lines then naming c (takes c lines) (servedOf c (takes c lines)) else naming c 7 c)
     else refused 3 c
 
 -- A read, out of turn before the chip is ready: IMR at A0=1; at A0=0 IRR or ISR, as MCW chose.

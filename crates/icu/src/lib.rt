@@ -2,11 +2,13 @@
 // Not modelled: slaves (IW3), polling, the exceptional nesting mode, the buffer mode, the pins' timing.
 ghost use mathlib.Core.Path.{_≡_};
 ghost use Prim.Native.Nat.{_≤_};
+ghost use Rattle.bits.specs.Choice.{if_then_else_, _and_};
+ghost use Rattle.bits.specs.Bits.{withOf, withoutOf};
 ghost use Rattle.icu.specs.Answers.{writtenAs, gotAs, acknowledgedAs};
 ghost use Rattle.icu.specs.Words.{resetOf, iw1, laterWord, setsExceptional, mcw, finished, pfcw, writeOf};
 ghost use Rattle.icu.specs.Ranks.{highestOf, rankOf};
 ghost use Rattle.icu.specs.Requests.{irrOf, askedOf, intOf, linesOf};
-ghost use Rattle.icu.specs.Service.{servedOf, vectorOf, callLowOf, acknowledgeOf, readOf};
+ghost use Rattle.icu.specs.Service.{servedOf, vectorOf, callLowOf, naming, acknowledgeOf, readOf};
 
 // What the chip holds. IRR is no field: it is the lines, or the edge requests. Neither is INT.
 #[repr(C)]
@@ -47,7 +49,6 @@ pub enum Acknowledged {
     Vector(Icu, u8),
     Call(Icu, u8, u8),
     Unready,
-    IntLow,
 }
 
 // The highest-ranked level whose bit is set in x, 8 where none is.
@@ -255,7 +256,7 @@ impl Icu {
         Written::OutOfTurn
     }
 
-    // IRR: in level trigger the lines as they are, in edge trigger the rises not yet acknowledged.
+    // IRR: in level trigger the lines as they are, in edge trigger the rises not yet acknowledged or withdrawn.
     pub fn irr(self, lines: u8) -> u8
         ensures { λ r. ⌜ r ≡ irrOf self lines ⌝ }
     {
@@ -290,7 +291,7 @@ impl Icu {
         false
     }
 
-    // The lines go from one set of levels to another.
+    // The lines go from one set of levels to another: rises ask, falls withdraw.
     pub fn lines(mut self, was: u8, now: u8) -> Icu
         ensures { λ r. ⌜ r ≡ linesOf self was now ⌝ }
     {
@@ -301,25 +302,61 @@ impl Icu {
             return self;
         }
         let risen = bits::masked(now, was);
-        self.edges = self.edges | risen;
+        let fallen = bits::masked(was, now);
+        let held = bits::masked(self.edges | risen, fallen);
+        self.edges = held;
         self
     }
 
-    // The chip once level n is acknowledged.
-    fn serve(mut self, n: u8) -> Icu
-        ensures { λ r. ⌜ r ≡ servedOf self n ⌝ }
+    // An acknowledge takes level n, or with INT low none. The request of the level taken goes.
+    fn edges_after(self, n: u8, taken: bool) -> u8
+        ensures { λ r. ⌜ r ≡ (if taken then withoutOf (self .edges) n else self .edges) ⌝ }
     {
-        let edges = bits::without(self.edges, n);
-        self.edges = edges;
+        if taken {
+            return bits::without(self.edges, n);
+        }
+        self.edges
+    }
+
+    // Its ISR bit is set, but not in self-FI.
+    fn isr_after(self, n: u8, taken: bool) -> u8
+        ensures { λ r. ⌜ r ≡ (if self .sfi then self .isr else if taken then withOf (self .isr) n else self .isr) ⌝ }
+    {
+        if self.sfi {
+            return self.isr;
+        }
+        if taken {
+            return bits::with(self.isr, n);
+        }
+        self.isr
+    }
+
+    // In self-FI with rotation it becomes lowest.
+    fn lowest_after(self, n: u8, taken: bool) -> u8
+        ensures { λ r. ⌜ r ≡ (if self .sfi and self .rotation and taken then n else self .lowest) ⌝ }
+    {
         if self.sfi {
             if self.rotation {
-                self.lowest = n;
-                return self;
+                if taken {
+                    return n;
+                }
+                return self.lowest;
             }
-            return self;
+            return self.lowest;
         }
-        let isr = bits::with(self.isr, n);
+        self.lowest
+    }
+
+    // The chip once level n is acknowledged, taken or not.
+    fn serve(mut self, n: u8, taken: bool) -> Icu
+        ensures { λ r. ⌜ r ≡ (if taken then servedOf self n else self) ⌝ }
+    {
+        let edges = self.edges_after(n, taken);
+        let isr = self.isr_after(n, taken);
+        let lowest = self.lowest_after(n, taken);
+        self.edges = edges;
         self.isr = isr;
+        self.lowest = lowest;
         self
     }
 
@@ -340,19 +377,26 @@ impl Icu {
         self.iw1 / 64 * 64 + n % 8 * 8
     }
 
-    // The processor acknowledges an interrupt.
+    // The bytes that name level n, with the chip afterwards.
+    fn name(self, n: u8, after: Icu) -> Acknowledged
+        ensures { λ r. ⌜ acknowledgedAs self r ≡ naming self n after ⌝ }
+    {
+        if self.vector {
+            return Acknowledged::Vector(after, self.vector_of(n));
+        }
+        Acknowledged::Call(after, self.call_low(n), self.iw2)
+    }
+
+    // The processor acknowledges an interrupt. With INT low it gets the bytes of level 7, and the chip stays as it is.
     pub fn acknowledge(self, lines: u8) -> Acknowledged
         ensures { λ r. ⌜ acknowledgedAs self r ≡ acknowledgeOf self lines ⌝ }
     {
         if self.stage == Icu::READY {
             if self.int(lines) {
                 let n = highest(self.asked(lines), self.lowest);
-                if self.vector {
-                    return Acknowledged::Vector(self.serve(n), self.vector_of(n));
-                }
-                return Acknowledged::Call(self.serve(n), self.call_low(n), self.iw2);
+                return self.name(n, self.serve(n, true));
             }
-            return Acknowledged::IntLow;
+            return self.name(7, self.serve(7, false));
         }
         Acknowledged::Unready
     }

@@ -30,13 +30,6 @@ returns-3 : tie.Need-returns-3
 unfolding acknowledgeOf
 returns-3 c = rw (← c .before .before .acknowledge .ensures, c .enum-told .given .1)
 
-enum-told-2 : tie.Need-enum-told-2
-enum-told-2 c = search needs
-
-returns-4 : tie.Need-returns-4
-unfolding acknowledgeOf
-returns-4 c = rw (← c .before .before .acknowledge .ensures, c .enum-told2 .given .1)
-
 pub acknowledge-spec : {M : Type 1} → statement M
 acknowledge-spec =
     tie.close
@@ -47,6 +40,4 @@ acknowledge-spec =
     enum-known-a-2
     returns-2
     enum-told
-    returns-3
-    enum-told-2
-    returns-4)
+    returns-3)

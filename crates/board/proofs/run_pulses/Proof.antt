@@ -1,15 +1,16 @@
-use mathlib.Core.Path.{_≡_, refl}
 use Prim.Native.Nat.{_<_}
 use borrow.Author.Needs.{needs}
-use borrow.Author.Tests.{lt-ltb, le-ltb}
+use denote.Struct.Laws.{owed}
+use Rattle.icu.proofs.Icu as the-icu
+use Rattle.icu.proofs.Icu.Laws.{the-laws}
 use Rattle.board.specs.Advance.{advancedOf}
 use Rattle.board.proofs.Pulses.{pulses}
 use Rattle.board.proofs.run_pulses.Statement.{statement}
 use Rattle.board.proofs.run_pulses.Tie as tie
 use Rattle.board.proofs.run_pulses.Reads as reads
 use Rattle.board.proofs.run_pulses.Lts as lts
-use Rattle.bits.proofs.with.Reads as with-reads
-use Rattle.bits.proofs.without.Reads as without-reads
+use Rattle.board.proofs.before_change.Reads as before-change-reads
+use Rattle.board.proofs.lines_by.Reads as lines-by-reads
 use Rattle.icu.proofs.Icu.lines.Reads as lines-reads
 use Rattle.timer.proofs.Counter.run.Reads as run-reads
 
@@ -35,30 +36,28 @@ run-requires-2 c κs = search needs
 run-requires-3 : tie.Need-run-requires-3
 run-requires-3 c κs = search needs
 
-without-requires : tie.Need-without-requires
-without-requires c κs = search needs
+before-change-requires : tie.Need-before-change-requires
+before-change-requires c κs = search needs
 
-with-requires : tie.Need-with-requires
-with-requires c κs = search needs
+lines-by-requires : tie.Need-lines-by-requires
+lines-by-requires c κs = search needs
+
+lines-by-requires-2 : tie.Need-lines-by-requires-2
+lines-by-requires-2 c κs = search needs
 
 lines-requires : tie.Need-lines-requires
 lines-requires c κs = search needs
 
 returns-2 : tie.Need-returns-2
 returns-2 c =
-    let r = c .before .before .before .before .before .before .before .before in
+    let r = c .before .before .before .before .before .before .before in
     let s = r .before .before .before .before .before .before in
     let a = s .before .args in
     let byte : a .intp < 256 = search needs in
-    rw (← pulses (a .intp) (a .t1) (a .icu) byte (a .n) (s .if1 .left), ← r .run3 .ensures, ← r .before .run2 .ensures, ← r .before .before .run .ensures, lt-ltb _ _ (c .before .before .before .if2 .taken), ← c .before .before .without .ensures, ← c .before .with .ensures, ← c .lines .ensures)
-
-returns-3 : tie.Need-returns-3
-returns-3 c =
-    let r = c .before .before .before .before .before in
-    let s = r .before .before .before .before .before .before in
-    let a = s .before .args in
-    let byte : a .intp < 256 = search needs in
-    rw (← pulses (a .intp) (a .t1) (a .icu) byte (a .n) (s .if1 .left), ← r .run3 .ensures, ← r .before .run2 .ensures, ← r .before .before .run .ensures, le-ltb _ _ (c .if2 .left))
+    -- the ranges of the chip's fields are what its type owns
+    let g = owed the-icu.the-type the-laws (a .icu) _ (s .before .good .1 .0) in
+    let edges : a .icu .edges < 256 = g .1 .1 .1 .1 .1 .1 .1 .0 .1 in
+    rw (← pulses (a .intp) (a .t1) (a .icu) byte edges (a .n) (s .if1 .left), ← r .run3 .ensures, ← r .before .run2 .ensures, ← r .before .before .run .ensures, ← c .before .before .before .before-change .ensures, ← c .before .before .lines-by .ensures, ← c .before .lines-by2 .ensures, ← c .lines .ensures)
 
 pub run-pulses-spec : {M : Type 1} → statement M
 run-pulses-spec =
@@ -71,8 +70,8 @@ run-pulses-spec =
     run-requires
     run-requires-2
     run-requires-3
-    without-requires
-    with-requires
+    before-change-requires
+    lines-by-requires
+    lines-by-requires-2
     lines-requires
-    returns-2
-    returns-3)
+    returns-2)
