@@ -49,11 +49,11 @@ none-yet (suc zero) h = refl
 none-yet (suc (suc zero)) h = refl
 none-yet (suc (suc (suc n))) h = absurd (omega arith)
 
-record Alone (t : Timer) (n k : ℕ) (r : Run) : Type 0 where
-  counter : at (r .timer) n ≡ ranOf (at t n) k .counter
-  rises : getD (r .rises) n 0 ≡ ranOf (at t n) k .rises
+pub record Alone (t : Timer) (n k : ℕ) (r : Run) : Type 0 where
+  pub counter : at (r .timer) n ≡ ranOf (at t n) k .counter
+  pub rises : getD (r .rises) n 0 ≡ ranOf (at t n) k .rises
 
-alone : (i : ℕ) (t : Timer) (c : Icu) (n k : ℕ) → n < 3 → Alone t n k (advancedOf i t c k)
+pub alone : (i : ℕ) (t : Timer) (c : Icu) (n k : ℕ) → n < 3 → Alone t n k (advancedOf i t c k)
 unfolding advancedOf tickOf ranOf
 alone i t c n zero few = record { counter = refl; rises = none-yet n few }
 alone i t c n (suc k) few =
@@ -74,7 +74,7 @@ rise-once true now = omega arith
 rise-once false true = omega arith
 rise-once false false = omega arith
 
-few-rises : (c : Counter) (k : ℕ) → ranOf c k .rises ≤ k
+pub few-rises : (c : Counter) (k : ℕ) → ranOf c k .rises ≤ k
 unfolding ranOf
 few-rises c zero = omega arith
 few-rises c (suc k) =
@@ -90,7 +90,7 @@ left b k n = refl
 four-bytes : (x : ℕ) → x < 65536 → x % 256 + x / 256 % 256 * 256 + x / 65536 % 256 * 65536 + x / 16777216 % 256 * 16777216 ≡ x
 four-bytes x h = omega arith
 
-reported : (b : Board) (k n : ℕ) → n < 3 → getD (run b k .rises) n 0 < 65536 → risesIn n (answeredOf 5 (advanceOf b k) .answer) ≡ getD (run b k .rises) n 0
+pub reported : (b : Board) (k n : ℕ) → n < 3 → getD (run b k .rises) n 0 < 65536 → risesIn n (answeredOf 5 (advanceOf b k) .answer) ≡ getD (run b k .rises) n 0
 unfolding answeredOf advanceOf answerOf
 reported b k zero few h = four-bytes (getD (run b k .rises) 0 0) h
 reported b k (suc zero) few h = four-bytes (getD (run b k .rises) 1 0) h

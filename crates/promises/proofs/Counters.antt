@@ -28,13 +28,14 @@ put-same : {A : Type 0} (f : Counter → A) (l : List Counter) (i : ℕ) (c : Co
 put-same f l i c h n =
     put (λ (d : Counter). f d ≡ f (getD l n blank)) l i n c blank (λ e. h ∙ ap (λ (k : ℕ). f (getD l k blank)) e) refl
 
--- An answer leaves the value, and where a writing stands. (A record: two equations side by side, carried through a chain of cases, are dear to check.)
+-- An answer leaves the value, OUT, and where a writing stands. (A record: equations side by side, carried through a chain of cases, are dear to check.)
 record Untouched (c : Counter) (a : Answer) : Type 0 where
   writing : writingOf (a .counter) ≡ writingOf c
   value : valueOf (a .counter) ≡ valueOf c
+  out : a .counter .out ≡ c .out
 
-leaves : {c : Counter} {a : Answer} → writingOf (a .counter) ≡ writingOf c → valueOf (a .counter) ≡ valueOf c → Untouched c a
-leaves w v = record { writing = w; value = v }
+leaves : {c : Counter} {a : Answer} → writingOf (a .counter) ≡ writingOf c → valueOf (a .counter) ≡ valueOf c → a .counter .out ≡ c .out → Untouched c a
+leaves w v o = record { writing = w; value = v; out = o }
 
 -- Writing leaves the counter's value.
 module _ (c : Counter) where
@@ -76,15 +77,15 @@ module _ (c : Counter) where
   unfolding readingOf
   write-reading x = write-same readingOf (λ n. ap readingOf (counted c n)) (λ y. ap readingOf (begins c y)) x
 
-  -- A read leaves the value and where a writing stands.
+  -- A read leaves the value, OUT, and where a writing stands.
   read-same : Untouched c (readOf c)
   unfolding readOf writingOf valueOf
   read-same =
       either (Untouched c) (moded c)
-      (λ _. either (Untouched c) (eqb (c .format) 1) (λ _. leaves refl refl)
-      (λ _. either (Untouched c) (eqb (c .format) 2) (λ _. leaves refl refl)
-      (λ _. either (Untouched c) (c .second) (λ _. leaves refl refl) (λ _. leaves refl refl))))
-      (λ _. leaves refl refl)
+      (λ _. either (Untouched c) (eqb (c .format) 1) (λ _. leaves refl refl refl)
+      (λ _. either (Untouched c) (eqb (c .format) 2) (λ _. leaves refl refl refl)
+      (λ _. either (Untouched c) (c .second) (λ _. leaves refl refl refl) (λ _. leaves refl refl refl))))
+      (λ _. leaves refl refl refl)
 
   -- A gate leaves the value.
   gate-value : (k : Bool) → valueOf (gateOf c k) ≡ valueOf c
@@ -117,6 +118,12 @@ module _ (t : Timer) (n : ℕ) where
   reads-value a =
       either (λ (w : Got). valueOf (at (w .timer) n) ≡ valueOf (at t n)) (eqb (a % 4) 3) (λ _. refl)
       (λ _. put-same valueOf (t .counters) (a % 4) (readOf (at t (a % 4)) .counter) (read-same (at t (a % 4)) .value) n)
+
+  pub reads-out : (a : ℕ) → at (readsOf t a .timer) n .out ≡ at t n .out
+  unfolding readsOf gotBy
+  reads-out a =
+      either (λ (w : Got). at (w .timer) n .out ≡ at t n .out) (eqb (a % 4) 3) (λ _. refl)
+      (λ _. put-same (λ (c : Counter). c .out) (t .counters) (a % 4) (readOf (at t (a % 4)) .counter) (read-same (at t (a % 4)) .out) n)
 
   pub gates-value : n < 3 → (l : ℕ) → valueOf (at (gatesOf t l) n) ≡ valueOf (at t n)
   unfolding gatesOf

@@ -202,7 +202,7 @@ module _ (c : Icu) (f : Fine c) where
       either P (ready c)
       (λ _. either P (intOf c lines)
       (λ i. either P (c .vector) (λ _. served-fine (takes c lines) (takes-small lines i)) (λ _. served-fine (takes c lines) (takes-small lines i)))
-      (λ _. f))
+      (λ _. either P (c .vector) (λ _. f) (λ _. f)))
       (λ _. f)
 
   -- Reads, and the lines.

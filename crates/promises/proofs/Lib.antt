@@ -36,6 +36,8 @@ pub mod Taken
 pub mod Taught
 pub mod Modes
 pub mod Waves
+pub mod Edges
+pub mod Withdrawn
 pub mod Meant
 pub mod Worked
 pub mod Examples

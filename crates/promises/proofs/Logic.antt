@@ -25,6 +25,25 @@ pub or-true : (q : Bool) → (q or true) ≡ true
 or-true true = refl
 or-true false = refl
 
+pub or-false : (q : Bool) → (q or false) ≡ q
+or-false true = refl
+or-false false = refl
+
+pub or-first : (p q : Bool) → p ≡ true → (p or q) ≡ true
+or-first p q h = rw h
+
+pub or-second : (p q : Bool) → q ≡ true → (p or q) ≡ true
+or-second true q h = refl
+or-second false q h = h
+
+pub and-true : (q : Bool) → (q and true) ≡ q
+and-true true = refl
+and-true false = refl
+
+pub and-false : (q : Bool) → (q and false) ≡ false
+and-false true = refl
+and-false false = refl
+
 -- A test that holds.
 pub T-true : (q : Bool) → T q → q ≡ true
 T-true true t = refl

@@ -13,7 +13,7 @@ use Rattle.promises.specs.Words.{unitAt, lastAt, dataIn, placeOf, distan
 use Rattle.promises.specs.Meant.{None, empty, misses, Meant}
 use Rattle.promises.proofs.Logic.{both-left, both-right}
 use Rattle.promises.proofs.Requested.{int-rule}
-use Rattle.promises.proofs.Taken.{level-taken, channel-granted, nothing-granted, reset-is-fresh}
+use Rattle.promises.proofs.Taken.{level-taken, spurious, channel-granted, nothing-granted, reset-is-fresh}
 
 -- Places, and the distance back.
 place-zero : (a : ℕ) (falls : Bool) → a < 16777216 → placeOf a falls 0 ≡ a
@@ -84,6 +84,7 @@ meant =
       last-found = last-found;
       int-rule = int-rule;
       level-taken = level-taken;
+      spurious = spurious;
       channel-granted = channel-granted;
       nothing-granted = nothing-granted;
       reset-is-fresh = reset-is-fresh;

@@ -144,7 +144,7 @@ module _ (b : Board) (m : List ℕ) where
         rw (free, d4, set, d3)
 
 -- Nothing in service, and something.
-no-bit : (n : ℕ) → n < 8 → bitOf 0 n ≡ false
+pub no-bit : (n : ℕ) → n < 8 → bitOf 0 n ≡ false
 unfolding every bitOf
 no-bit n h = alike (λ n. bitOf 0 n) (λ n. false) 8 tt n h
 

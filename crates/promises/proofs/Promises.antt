@@ -6,6 +6,7 @@ use Rattle.promises.proofs.Reached.{reached}
 use Rattle.promises.proofs.Taught.{taught}
 use Rattle.promises.proofs.Modes.{modes}
 use Rattle.promises.proofs.Waves.{waves}
+use Rattle.promises.proofs.Withdrawn.{withdrawn}
 use Rattle.promises.proofs.Meant.{meant}
 use Rattle.promises.proofs.Worked.{worked}
 use Rattle.promises.proofs.Examples.{examples}
@@ -19,6 +20,7 @@ promises =
       taught = taught;
       modes = modes;
       waves = waves;
+      withdrawn = withdrawn;
       meant = meant;
       worked = worked;
       examples = examples;

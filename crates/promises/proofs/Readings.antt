@@ -391,14 +391,10 @@ module _ (b : Board) (r : List ℕ) where
   same-unbuilt-row =
       rows (eqb (getD r 0 0) 1) (write-unbuilt (getD r 2 0) (getD r 1 0)) (ap (λ (q : Bool). eqb (getD r 0 0) 2 and q) (read-unbuilt (getD r 1 0)))
 
-  same-int : Table.intLow b r ≡ Ruled.intLow b r
-  unfolding Table.intLow Ruled.intLow
-  same-int = refl
-
   same-count : Table.countsOne b r ≡ Ruled.countsOne b r
   unfolding Table.countsOne Ruled.countsOne
   same-count = ap (λ (q : Bool). eqb (getD r 0 0) 1 and q) (write-one b (getD r 2 0) (getD r 1 0))
 
   pub status-due : (m : List ℕ) → getD (stepOf b r m .answer) 0 0 ≡ Table.due b r
   status-due m =
-      status-ruled b r m ∙ sym (rw (same-formed r, same-held, same-turn, same-unbuilt-row, same-int, same-count) refl)
+      status-ruled b r m ∙ sym (rw (same-formed r, same-held, same-turn, same-unbuilt-row, same-count) refl)

@@ -67,7 +67,7 @@ module _ (c : Icu) where
   unfolding IcuService.acknowledgeOf
   icu-acknowledge l =
       either Q (IcuWords.ready c)
-      (λ _. either Q (intOf c l) (λ _. either Q (c .vector) (λ _. plain no) (λ _. plain no)) (λ _. plain (λ h. refl)))
+      (λ _. either Q (intOf c l) (λ _. either Q (c .vector) (λ _. plain no) (λ _. plain no)) (λ _. either Q (c .vector) (λ _. plain no) (λ _. plain no)))
       (λ _. plain (λ h. refl))
 
 module _ (b : Board) where

@@ -2,12 +2,12 @@
 use mathlib.Core.Path.{_≡_, refl, sym, ap, _∙_}
 use mathlib.Core.Logic.{_↔_}
 use mathlib.Core.List.{List}
-use mathlib.Core.Bool.{Bool, true, false, not}
+use mathlib.Core.Bool.{Bool, true, false, not, true≢false}
 use Prim.Native.Nat.{ℕ, zero, suc, _-_, _/_, _%_, _^_, _≤_, _<_}
 use native.Mathlib.Omega.{arith}
 use lib.Dec.{eqb}
 use lib.ListN.{getD}
-use lib.Bits.{bitAnd, bitOr, and-shr, and-mod, or-shr, or-mod}
+use lib.Bits.{bitAnd, bitOr, and-le-l, and-shr, and-mod, or-shr, or-mod}
 use borrow.Author.Tests.{eqb-true, ltb-true, lt-ltb, eq-eqb, ne-eqb}
 use Rattle.bits.specs.Choice.{if_then_else_, _and_, _or_, every, some}
 use Rattle.bits.specs.Bits.{bitOf, withOf, withoutOf, maskedOf}
@@ -17,12 +17,12 @@ use Rattle.icu.specs.declared.Icu.{Icu}
 use Rattle.icu.specs.Fields.{edges-is}
 use Rattle.icu.specs.Ranks.{rankOf, outranks}
 use Rattle.icu.specs.Words.{ready, lev}
-use Rattle.icu.specs.Requests.{irrOf, askedOf, outranksAll, intOf, rises, linesOf}
+use Rattle.icu.specs.Requests.{irrOf, askedOf, outranksAll, intOf, rises, falls, linesOf}
 use Rattle.timer.specs.declared.Timer.{Timer}
 use Rattle.timer.specs.Timer.{at}
 use Rattle.board.specs.declared.Board.{Board}
 use Rattle.board.specs.Operations.{done, refused}
-use Rattle.board.specs.Wiring.{linesAt, lines, int, rewired}
+use Rattle.board.specs.Wiring.{linesBy, linesAt, lines, int, rewired}
 use Rattle.board.specs.Step.{executeOf, blocked, outcomeOf, answeredOf, stepOf}
 use Rattle.promises.specs.Records.{reading, setting}
 use Rattle.promises.specs.Words.{requested, lineHigh, askedFor}
@@ -31,7 +31,7 @@ use Rattle.promises.specs.Meant.{Outranking}
 use Rattle.promises.proofs.Logic.{both-left, both-right, both, each-true}
 use Rattle.promises.proofs.IcuKept.{with-byte, without-byte, found}
 use Rattle.promises.proofs.BoardKept.{reached-held}
-use Rattle.promises.proofs.Sizes.{reached-typed}
+use Rattle.promises.proofs.Sizes.{lines-small, reached-typed}
 use Rattle.promises.proofs.Highest.{rank-before, cleared, added}
 use Rattle.promises.proofs.Plain.{irr-read}
 
@@ -68,16 +68,15 @@ either-bit (suc zero) (suc zero) h k = refl
 either-bit (suc zero) (suc (suc b)) h k = absurd (omega arith)
 either-bit (suc (suc a)) b h k = absurd (omega arith)
 
-joined-bit : (x y k : ℕ) → bitOf (bitOr x y) k ≡ (bitOf x k or bitOf y k)
+pub joined-bit : (x y k : ℕ) → bitOf (bitOr x y) k ≡ (bitOf x k or bitOf y k)
 unfolding bitOf
 joined-bit x y k =
     ap (λ (z : ℕ). eqb z 1) (ap (λ (z : ℕ). z % 2) (or-shr x y k) ∙ or-mod (x / 2 ^ k) (y / 2 ^ k) 1)
     ∙ either-bit (x / 2 ^ k % 2) (y / 2 ^ k % 2) (omega arith) (omega arith)
 
 -- Line 0 is OUT0, and the others are those of INTP.
-line-bit : (i k : ℕ) (t : Timer) → i < 256 → k < 8 → bitOf (linesAt i t) k ≡ (if eqb k 0 then at t 0 .out else bitOf i k)
-unfolding linesAt
-line-bit i k t h l = go (at t 0 .out)
+pub line-by : (i k : ℕ) (q : Bool) → i < 256 → k < 8 → bitOf (linesBy i q) k ≡ (if eqb k 0 then q else bitOf i k)
+line-by i k q h l = go q
   where
     high : (p q : Bool) → (p or q) ≡ (if q then true else p)
     high true true = refl
@@ -91,31 +90,40 @@ line-bit i k t h l = go (at t 0 .out)
     low false true = refl
     low false false = refl
 
-    go : (q : Bool) → bitOf (if q then withOf i 0 else withoutOf i 0) k ≡ (if eqb k 0 then q else bitOf i k)
+    go : (q : Bool) → bitOf (linesBy i q) k ≡ (if eqb k 0 then q else bitOf i k)
     go true = added i 0 k h (omega arith) l ∙ high (bitOf i k) (eqb k 0)
     go false = cleared i 0 k h (omega arith) l ∙ low (bitOf i k) (eqb k 0)
 
-lines-small : (i : ℕ) (t : Timer) → i < 256 → linesAt i t < 256
+pub line-bit : (i k : ℕ) (t : Timer) → i < 256 → k < 8 → bitOf (linesAt i t) k ≡ (if eqb k 0 then at t 0 .out else bitOf i k)
 unfolding linesAt
-lines-small i t h = go (at t 0 .out)
-  where
-    go : (q : Bool) → (if q then withOf i 0 else withoutOf i 0) < 256
-    go true = with-byte i 0 h (omega arith)
-    go false = without-byte i 0 h
+line-bit i k t h l = line-by i k (at t 0 .out) h l
 
-module _ {b : Board} (r : Reached b) where
+-- What of a board's numbers the interrupt chip's laws need, at the end of any record.
+pub record Fit (b : Board) : Type 0 where
+  pub intp : b .intp < 256
+  pub edges : b .icu .edges < 256
+  pub isr : b .icu .isr < 256
+  pub imr : b .icu .imr < 256
+  pub lowest : b .icu .lowest < 8
+
+pub reached-fit : {b : Board} → Reached b → Fit b
+reached-fit r =
+    let t = reached-typed r in
+    record { intp = t .intp; edges = t .edges; isr = t .isr; imr = t .imr; lowest = reached-held r .icu .lowest }
+
+module _ (b : Board) (f : Fit b) where
   pub irr-bit : (k : ℕ) → k < 8 → bitOf (irrOf (b .icu) (lines b)) k ≡ requested b k
   unfolding irrOf
   irr-bit k l = go (lev (b .icu))
     where
       go : (q : Bool) → bitOf (if q then lines b else b .icu .edges) k ≡ (if q then lineHigh b k else bitOf (b .icu .edges) k)
-      go true = line-bit (b .intp) k (b .timer) (reached-typed r .intp) l
+      go true = line-bit (b .intp) k (b .timer) (f .intp) l
       go false = refl
 
   pub asked-bit : (k : ℕ) → k < 8 → bitOf (askedOf (b .icu) (lines b)) k ≡ askedFor b k
   unfolding askedOf
   asked-bit k l =
-      masked-bit (irrOf (b .icu) (lines b)) (b .icu .imr) k (reached-typed r .imr) l
+      masked-bit (irrOf (b .icu) (lines b)) (b .icu .imr) k (f .imr) l
       ∙ ap (λ (q : Bool). q and not (bitOf (b .icu .imr) k)) (irr-bit k l)
 
   -- INT.
@@ -123,24 +131,24 @@ module _ {b : Board} (r : Reached b) where
   test n m = if bitOf (b .icu .isr) m then outranks (b .icu .lowest) n m else true
 
   low : b .icu .lowest < 8
-  low = reached-held r .icu .lowest
+  low = f .lowest
 
   outranking : int b ≡ true → Outranking b
   unfolding intOf low
   outranking h =
-      let f = found (λ n. bitOf (askedOf (b .icu) (lines b)) n and outranksAll (b .icu) n) 8 (both-right (ready (b .icu)) _ h) in
-      let n = f .0 in
-      let a = both-left (bitOf (askedOf (b .icu) (lines b)) n) (outranksAll (b .icu) n) (f .2) in
-      let o = both-right (bitOf (askedOf (b .icu) (lines b)) n) (outranksAll (b .icu) n) (f .2) in
+      let w = found (λ n. bitOf (askedOf (b .icu) (lines b)) n and outranksAll (b .icu) n) 8 (both-right (ready (b .icu)) _ h) in
+      let n = w .0 in
+      let a = both-left (bitOf (askedOf (b .icu) (lines b)) n) (outranksAll (b .icu) n) (w .2) in
+      let o = both-right (bitOf (askedOf (b .icu) (lines b)) n) (outranksAll (b .icu) n) (w .2) in
       record {
         level = n;
-        low = f .1;
-        asked = sym (asked-bit n (f .1)) ∙ a;
+        low = w .1;
+        asked = sym (asked-bit n (w .1)) ∙ a;
         over = λ k l s.
             omega (
               arith,
               ltb-true (rankOf (b .icu .lowest) n) (rankOf (b .icu .lowest) k) (rw s at (each-true (test n) 8 o k l)),
-              rank-before (b .icu .lowest) n low (f .1),
+              rank-before (b .icu .lowest) n low (w .1),
               rank-before (b .icu .lowest) k low l,
             );
       }
@@ -158,12 +166,15 @@ module _ {b : Board} (r : Reached b) where
           (omega (arith, o .over m l q, rank-before (b .icu .lowest) (o .level) low (o .low), rank-before (b .icu .lowest) m low l))
       go m l false q = refl
 
-  pub int-rule : (int b ≡ true) ↔ ((b .icu .stage ≡ 3) × Outranking b)
+  int-by-rank : (int b ≡ true) ↔ ((b .icu .stage ≡ 3) × Outranking b)
   unfolding intOf
-  int-rule = (
+  int-by-rank = (
     λ h. (eqb-true (b .icu .stage) 3 (both-left (ready (b .icu)) _ h), outranking h),
     λ z. both (ready (b .icu)) (some (λ n. bitOf (askedOf (b .icu) (lines b)) n and outranksAll (b .icu) n) 8) (eq-eqb (b .icu .stage) 3 (z .0)) (outranked (z .1)),
   )
+
+pub int-rule : {b : Board} → Reached b → (int b ≡ true) ↔ ((b .icu .stage ≡ 3) × Outranking b)
+int-rule {b} r = int-by-rank b (reached-fit r)
 
 -- The lines as a record sets them, and the chip that sees them.
 set-lines : (b : Board) (m : List ℕ) (l : ℕ) → l % 2 ≡ 0 → stepOf b (setting 0 l) m .board ≡ rewired l (b .timer) b
@@ -174,12 +185,20 @@ set-lines b m l e = rw (eq-eqb (l % 2) 0 e) (go (b .dma .serving))
     go true = refl
     go false = refl
 
-module _ (c : Icu) (was now : ℕ) where
-  stage-stays : linesOf c was now .stage ≡ c .stage
+-- A request e of a line that was at one level and is at another.
+abbrev pub edged : Bool → Bool → Bool → Bool
+edged e was now = (e or (now and not was)) and not (was and not now)
+
+masked-small : (x m : ℕ) → x < 256 → maskedOf x m < 256
+unfolding maskedOf
+masked-small x m h = omega (arith, and-le-l x (255 - m))
+
+module _ (c : Icu) (was now : ℕ) (small : now < 256) where
+  pub stage-stays : linesOf c was now .stage ≡ c .stage
   unfolding linesOf
   stage-stays = go (ready c) (lev c)
     where
-      go : (p q : Bool) → (if p then (if q then c else edges-is (bitOr (c .edges) (rises was now)) c) else c) .stage ≡ c .stage
+      go : (p q : Bool) → (if p then (if q then c else edges-is (maskedOf (bitOr (c .edges) (rises was now)) (falls was now)) c) else c) .stage ≡ c .stage
       go true true = refl
       go true false = refl
       go false q = refl
@@ -188,27 +207,53 @@ module _ (c : Icu) (was now : ℕ) where
   unfolding linesOf
   shows-stays = go (ready c) (lev c)
     where
-      go : (p q : Bool) → (if p then (if q then c else edges-is (bitOr (c .edges) (rises was now)) c) else c) .showsisr ≡ c .showsisr
+      go : (p q : Bool) → (if p then (if q then c else edges-is (maskedOf (bitOr (c .edges) (rises was now)) (falls was now)) c) else c) .showsisr ≡ c .showsisr
       go true true = refl
       go true false = refl
       go false q = refl
 
-  risen-bit : (k : ℕ) → was < 256 → k < 8 → ready c ≡ true → bitOf was k ≡ false → bitOf now k ≡ true → bitOf (irrOf (linesOf c was now) now) k ≡ true
-  unfolding irrOf linesOf
-  risen-bit k h l set lo hi = rw set (go (lev c) refl)
+  pub trigger-stays : lev (linesOf c was now) ≡ lev c
+  unfolding linesOf
+  trigger-stays = go (ready c) (lev c)
     where
-      or-true : (p q : Bool) → q ≡ true → (p or q) ≡ true
-      or-true true q e = refl
-      or-true false q e = e
+      go : (p q : Bool) → lev (if p then (if q then c else edges-is (maskedOf (bitOr (c .edges) (rises was now)) (falls was now)) c) else c) ≡ lev c
+      go true true = refl
+      go true false = refl
+      go false q = refl
 
-      risen : bitOf (rises was now) k ≡ true
-      risen = masked-bit now was k h l ∙ rw (hi, lo) refl
+  -- The request of level k, in edge trigger, by the levels of its line: a rise makes it, a fall takes it away. Otherwise the lines change nothing.
+  pub edge-bit : (k : ℕ) → was < 256 → k < 8 → ready c ≡ true → lev c ≡ false
+      → bitOf (linesOf c was now .edges) k ≡ edged (bitOf (c .edges) k) (bitOf was k) (bitOf now k)
+  unfolding linesOf
+  edge-bit k h l set edge =
+      rw (set, edge)
+      (masked-bit (bitOr (c .edges) (rises was now)) (falls was now) k (masked-small was now h) l
+      ∙ rw (joined-bit (c .edges) (rises was now) k, masked-bit now was k h l, masked-bit was now k small l))
 
-      go : (q : Bool) → lev c ≡ q
-          → bitOf (if lev (if q then c else edges-is (bitOr (c .edges) (rises was now)) c) then now else (if q then c else edges-is (bitOr (c .edges) (rises was now)) c) .edges) k
-          ≡ true
-      go true q = rw q hi
-      go false q = rw q (joined-bit (c .edges) (rises was now) k ∙ or-true (bitOf (c .edges) k) (bitOf (rises was now) k) risen)
+  pub unready-lines : ready c ≡ false → linesOf c was now ≡ c
+  unfolding linesOf
+  unready-lines h = rw h
+
+  pub level-lines : lev c ≡ true → linesOf c was now ≡ c
+  unfolding linesOf
+  level-lines h = go (ready c) (lev c) h
+    where
+      go : (p q : Bool) → q ≡ true → (if p then (if q then c else edges-is (maskedOf (bitOr (c .edges) (rises was now)) (falls was now)) c) else c) ≡ c
+      go true true e = refl
+      go true false e = absurd (true≢false (sym e))
+      go false q e = refl
+
+  risen-bit : (k : ℕ) → was < 256 → k < 8 → ready c ≡ true → bitOf was k ≡ false → bitOf now k ≡ true → bitOf (irrOf (linesOf c was now) now) k ≡ true
+  unfolding irrOf
+  risen-bit k h l set lo hi = rw trigger-stays (go (lev c) refl)
+    where
+      go : (q : Bool) → lev c ≡ q → bitOf (if q then now else linesOf c was now .edges) k ≡ true
+      go true e = hi
+      go false e = edge-bit k h l set e ∙ rw (lo, hi) (asks (bitOf (c .edges) k))
+        where
+          asks : (e : Bool) → edged e false true ≡ true
+          asks true = refl
+          asks false = refl
 
 pub masked-rise-shows : {b : Board} → Reached b → (m : List ℕ) → b .dma .serving ≡ false → ready (b .icu) ≡ true → b .icu .showsisr ≡ false
     → (l k : ℕ) → l < 256 → l % 2 ≡ 0 → 1 ≤ k → k < 8
@@ -219,8 +264,8 @@ unfolding rewired
 masked-rise-shows {b} r m free set irr l k hl even one hk lo hi =
     ap (λ (d : Board). bitOf (getD (stepOf d (reading 0) m .answer) 2 0) k) (set-lines b m l even)
     ∙ ap (λ (x : ℕ). bitOf x k)
-    (irr-read (rewired l (b .timer) b) m free (ap (λ (s : ℕ). eqb s 3) (stage-stays (b .icu) was now) ∙ set) (shows-stays (b .icu) was now ∙ irr))
-    ∙ risen-bit (b .icu) was now k (lines-small (b .intp) (b .timer) (reached-typed r .intp)) hk set
+    (irr-read (rewired l (b .timer) b) m free (ap (λ (s : ℕ). eqb s 3) (stage-stays (b .icu) was now small) ∙ set) (shows-stays (b .icu) was now small ∙ irr))
+    ∙ risen-bit (b .icu) was now small k (lines-small (b .intp) (b .timer) (reached-typed r .intp)) hk set
     (line-bit (b .intp) k (b .timer) (reached-typed r .intp) hk ∙ rw (ne-eqb k 0 (omega arith)) lo)
     (line-bit l k (b .timer) hl hk ∙ rw (ne-eqb k 0 (omega arith)) hi)
   where
@@ -229,3 +274,6 @@ masked-rise-shows {b} r m free set irr l k hl even one hk lo hi =
 
     now : ℕ
     now = linesAt l (b .timer)
+
+    small : now < 256
+    small = lines-small l (b .timer) hl

@@ -15,81 +15,73 @@ use Rattle.promises.specs.Words.{answerAt}
 use Rattle.promises.proofs.Steps.{answer-length}
 use Rattle.promises.proofs.Runs.{at-before, at-last, answered}
 
--- The status, by the tests: well formed, held up by DMA, out of turn, not built, INT low, count 1.
-abbrev dueBy : Bool → Bool → Bool → Bool → Bool → Bool → ℕ
-dueBy f h o n i c = if f then (if h then 1 else if o then 3 else if n then 4 else if i then 5 else if c then 6 else 0) else 2
+-- The status, by the tests: well formed, held up by DMA, out of turn, not built, count 1.
+abbrev dueBy : Bool → Bool → Bool → Bool → Bool → ℕ
+dueBy f h o n c = if f then (if h then 1 else if o then 3 else if n then 4 else if c then 6 else 0) else 2
 
-pub small : (f h o n i c : Bool) → dueBy f h o n i c < 7
-small true true o n i c = omega arith
-small true false true n i c = omega arith
-small true false false true i c = omega arith
-small true false false false true c = omega arith
-small true false false false false true = omega arith
-small true false false false false false = omega arith
-small false h o n i c = omega arith
+pub small : (f h o n c : Bool) → dueBy f h o n c < 7
+small true true o n c = omega arith
+small true false true n c = omega arith
+small true false false true c = omega arith
+small true false false false true = omega arith
+small true false false false false = omega arith
+small false h o n c = omega arith
 
-pub is-0 : (f h o n i c : Bool) → eqb (dueBy f h o n i c) 0 ≡ (f and not h and not o and not n and not i and not c)
-is-0 true true o n i c = refl
-is-0 true false true n i c = refl
-is-0 true false false true i c = refl
-is-0 true false false false true c = refl
-is-0 true false false false false true = refl
-is-0 true false false false false false = refl
-is-0 false h o n i c = refl
+pub is-0 : (f h o n c : Bool) → eqb (dueBy f h o n c) 0 ≡ (f and not h and not o and not n and not c)
+is-0 true true o n c = refl
+is-0 true false true n c = refl
+is-0 true false false true c = refl
+is-0 true false false false true = refl
+is-0 true false false false false = refl
+is-0 false h o n c = refl
 
-pub is-1 : (f h o n i c : Bool) → eqb (dueBy f h o n i c) 1 ≡ (f and h)
-is-1 true true o n i c = refl
-is-1 true false true n i c = refl
-is-1 true false false true i c = refl
-is-1 true false false false true c = refl
-is-1 true false false false false true = refl
-is-1 true false false false false false = refl
-is-1 false h o n i c = refl
+pub is-1 : (f h o n c : Bool) → eqb (dueBy f h o n c) 1 ≡ (f and h)
+is-1 true true o n c = refl
+is-1 true false true n c = refl
+is-1 true false false true c = refl
+is-1 true false false false true = refl
+is-1 true false false false false = refl
+is-1 false h o n c = refl
 
-pub is-2 : (f h o n i c : Bool) → eqb (dueBy f h o n i c) 2 ≡ (not f)
-is-2 true true o n i c = refl
-is-2 true false true n i c = refl
-is-2 true false false true i c = refl
-is-2 true false false false true c = refl
-is-2 true false false false false true = refl
-is-2 true false false false false false = refl
-is-2 false h o n i c = refl
+pub is-2 : (f h o n c : Bool) → eqb (dueBy f h o n c) 2 ≡ (not f)
+is-2 true true o n c = refl
+is-2 true false true n c = refl
+is-2 true false false true c = refl
+is-2 true false false false true = refl
+is-2 true false false false false = refl
+is-2 false h o n c = refl
 
-pub is-3 : (f h o n i c : Bool) → eqb (dueBy f h o n i c) 3 ≡ (f and not h and o)
-is-3 true true o n i c = refl
-is-3 true false true n i c = refl
-is-3 true false false true i c = refl
-is-3 true false false false true c = refl
-is-3 true false false false false true = refl
-is-3 true false false false false false = refl
-is-3 false h o n i c = refl
+pub is-3 : (f h o n c : Bool) → eqb (dueBy f h o n c) 3 ≡ (f and not h and o)
+is-3 true true o n c = refl
+is-3 true false true n c = refl
+is-3 true false false true c = refl
+is-3 true false false false true = refl
+is-3 true false false false false = refl
+is-3 false h o n c = refl
 
-pub is-4 : (f h o n i c : Bool) → eqb (dueBy f h o n i c) 4 ≡ (f and not h and not o and n)
-is-4 true true o n i c = refl
-is-4 true false true n i c = refl
-is-4 true false false true i c = refl
-is-4 true false false false true c = refl
-is-4 true false false false false true = refl
-is-4 true false false false false false = refl
-is-4 false h o n i c = refl
+pub is-4 : (f h o n c : Bool) → eqb (dueBy f h o n c) 4 ≡ (f and not h and not o and n)
+is-4 true true o n c = refl
+is-4 true false true n c = refl
+is-4 true false false true c = refl
+is-4 true false false false true = refl
+is-4 true false false false false = refl
+is-4 false h o n c = refl
 
-pub is-5 : (f h o n i c : Bool) → eqb (dueBy f h o n i c) 5 ≡ (f and not h and not o and not n and i)
-is-5 true true o n i c = refl
-is-5 true false true n i c = refl
-is-5 true false false true i c = refl
-is-5 true false false false true c = refl
-is-5 true false false false false true = refl
-is-5 true false false false false false = refl
-is-5 false h o n i c = refl
+pub is-5 : (f h o n c : Bool) → eqb (dueBy f h o n c) 5 ≡ false
+is-5 true true o n c = refl
+is-5 true false true n c = refl
+is-5 true false false true c = refl
+is-5 true false false false true = refl
+is-5 true false false false false = refl
+is-5 false h o n c = refl
 
-pub is-6 : (f h o n i c : Bool) → eqb (dueBy f h o n i c) 6 ≡ (f and not h and not o and not n and not i and c)
-is-6 true true o n i c = refl
-is-6 true false true n i c = refl
-is-6 true false false true i c = refl
-is-6 true false false false true c = refl
-is-6 true false false false false true = refl
-is-6 true false false false false false = refl
-is-6 false h o n i c = refl
+pub is-6 : (f h o n c : Bool) → eqb (dueBy f h o n c) 6 ≡ (f and not h and not o and not n and c)
+is-6 true true o n c = refl
+is-6 true false true n c = refl
+is-6 true false false true c = refl
+is-6 true false false false true = refl
+is-6 true false false false false = refl
+is-6 false h o n c = refl
 
 -- A number is k exactly if a test says so.
 pub exactly : (s t k : ℕ) (q : Bool) → s ≡ t → eqb t k ≡ q → (s ≡ k) ↔ (q ≡ true)

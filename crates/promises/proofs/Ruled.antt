@@ -15,7 +15,6 @@ use Rattle.timer.specs.Ports.{SC, RWM, BCD, sizeOf}
 use Rattle.timer.specs.Timer.{at}
 use Rattle.dma.specs.Registers.{unbuiltMode}
 use Rattle.board.specs.declared.Board.{Board}
-use Rattle.board.specs.Wiring.{int}
 use Rattle.board.specs.Operations.{a0}
 
 -- The operation, the port or group, and the data.
@@ -102,10 +101,6 @@ notBuilt b r =
     else dmaPort (port r) and unbuiltRegister (port r % 16) (datum r))
     else eqb (op r) 2 and dmaPort (port r) and leb 12 (port r % 16) and ltb (port r % 16) 15
 
--- Row 5: an acknowledge with INT low.
-unfoldable pub intLow : Board → List ℕ → Bool
-intLow b r = eqb (op r) 4 and not (int b)
-
 -- Row 6: a count byte that completes a count below the mode's minimum.
 abbrev pub tooSmall : Counter → ℕ → Bool
 tooSmall c n = ltb (sizeOf n) (modeOf (c .mode) .least)
@@ -120,14 +115,13 @@ unfoldable pub countsOne : Board → List ℕ → Bool
 countsOne b r =
     eqb (op r) 1 and timerPort (port r) and not (eqb (port r % 4) 3) and completesOne (at (b .timer) (port r % 4)) (datum r)
 
--- The status that the table gives, in the order of the checks: 2, 1, 3, 4, 5, 6.
+-- The status that the table gives, in the order of the checks: 2, 1, 3, 4, 6.
 abbrev pub due : Board → List ℕ → ℕ
 due b r =
     if formed r then
     (if held b r then 1
     else if outOfTurn b r then 3
     else if notBuilt b r then 4
-    else if intLow b r then 5
     else if countsOne b r then 6
     else 0)
     else 2

@@ -5,7 +5,7 @@ use mathlib.Core.Bool.{Bool, true, false}
 use Prim.Native.Nat.{ℕ, zero, suc, _+_, _-_, _*_, _/_, _%_, _<_}
 use native.Mathlib.Omega.{arith}
 use lib.Dec.{eqb, ltb, leb}
-use lib.Bits.{and-le-l, or-lt}
+use lib.Bits.{bitOr, and-le-l, or-lt}
 use lib.ListN.{getD, set, take, length, length-set}
 use lib.Seq.{getD-set-same, getD-set-other, set-out}
 use borrow.Author.Tests.{eqb-true, eqb-false, ltb-true, ltb-false}
@@ -19,7 +19,7 @@ use Rattle.icu.specs.declared.Icu.{Icu}
 use Rattle.icu.specs.Answers.{Told}
 use Rattle.icu.specs.Words as Words
 use Rattle.icu.specs.Words.{ready, lev, i4, setsExceptional}
-use Rattle.icu.specs.Requests.{intOf, linesOf}
+use Rattle.icu.specs.Requests.{intOf, rises, falls, linesOf}
 use Rattle.icu.specs.Service as Service
 use Rattle.timer.specs.declared.Counter.{Counter}
 use Rattle.timer.specs.declared.Timer.{Timer}
@@ -39,7 +39,7 @@ use Rattle.dma.specs.Registers as Registers
 use Rattle.dma.specs.Cycle as DmaCycle
 use Rattle.board.specs.declared.Board.{Board}
 use Rattle.board.specs.Operations.{Outcome, a0, timerWritten, timerShown, dmaWritten, dmaShown, writeOf, readOf, cycleOf}
-use Rattle.board.specs.Wiring.{freshOf, lines, linesAt, rewired}
+use Rattle.board.specs.Wiring.{freshOf, linesBy, lines, linesAt, rewired}
 use Rattle.board.specs.Advance.{tickOf, advancedOf, advanceOf}
 use Rattle.board.specs.Step.{executeOf, blocked, outcomeOf, answeredOf, stepOf}
 use Rattle.board.specs.Records.{recordAt, after}
@@ -56,7 +56,7 @@ use Rattle.promises.proofs.BoardKept.{reached-held}
 use Rattle.promises.proofs.Runs.{reached-sound}
 
 -- The interrupt chip.
-abbrev SmallIcu : Icu → Type 0
+abbrev pub SmallIcu : Icu → Type 0
 SmallIcu c = (c .iw1 < 256) × (c .iw2 < 256) × (c .imr < 256) × (c .edges < 256)
 
 module _ (c : Icu) (s : SmallIcu c) where
@@ -113,7 +113,8 @@ module _ (c : Icu) (s : SmallIcu c) where
   unfolding Service.acknowledgeOf
   icu-acknowledge l =
       either P (ready c)
-      (λ _. either P (intOf c l) (λ _. either P (c .vector) (λ _. served-small (Service.takes c l)) (λ _. served-small (Service.takes c l))) (λ _. s))
+      (λ _. either P (intOf c l) (λ _. either P (c .vector) (λ _. served-small (Service.takes c l)) (λ _. served-small (Service.takes c l)))
+      (λ _. either P (c .vector) (λ _. s) (λ _. s)))
       (λ _. s)
 
   icu-read : (k : Bool) (l : ℕ) → P (Service.readOf c k l)
@@ -124,7 +125,16 @@ module _ (c : Icu) (s : SmallIcu c) where
   unfolding linesOf maskedOf
   icu-lines was now h =
       either SmallIcu (ready c)
-      (λ _. either SmallIcu (lev c) (λ _. s) (λ _. (s .0, s .1, s .2, or-lt 8 _ _ (s .3) (omega (arith, and-le-l now (255 - was))))))
+      (λ _. either SmallIcu (lev c) (λ _. s) (λ _. (
+        s .0,
+        s .1,
+        s .2,
+        omega (
+          arith,
+          and-le-l (bitOr (c .edges) (rises was now)) (255 - falls was now),
+          or-lt 8 (c .edges) (rises was now) (s .3) (omega (arith, and-le-l now (255 - was))),
+        ),
+      )))
       (λ _. s)
 
 icu-reset : SmallIcu Words.resetOf
@@ -132,7 +142,7 @@ unfolding Words.resetOf
 icu-reset = (omega arith, omega arith, omega arith, omega arith)
 
 -- The timer.
-abbrev SmallCounter : Counter → Type 0
+abbrev pub SmallCounter : Counter → Type 0
 SmallCounter c = (c .value < 65536) × (c .count < 65536) × (c .latch < 65536) × (c .low < 256)
 
 module _ (c : Counter) (s : SmallCounter c) where
@@ -194,7 +204,7 @@ module _ {A : Type 0} (Q : A → Type 0) (past : A) where
           subst (λ (k : ℕ). Q (getD (set l i c) k past)) (sym (eqb-true n i q))
           (subst Q (sym (getD-set-same l i c past (ltb-true i (length l) v))) g)
 
-record SmallTimer (t : Timer) : Type 0 where
+pub record SmallTimer (t : Timer) : Type 0 where
   long : length (t .counters) ≡ 3
   all : (n : ℕ) → SmallCounter (at t n)
 
@@ -249,10 +259,10 @@ module _ (t : Timer) (s : SmallTimer t) where
       three-small _ _ _ (gate-small (at t 0) (s .all 0) (bitOf l 0)) (gate-small (at t 1) (s .all 1) (bitOf l 1)) (gate-small (at t 2) (s .all 2) (bitOf l 2))
 
 -- The modes of the DMA chip's channels. (Its other fields have bounds of their own.)
-abbrev SmallChannel : Channel → Type 0
+abbrev pub SmallChannel : Channel → Type 0
 SmallChannel c = c .mode < 256
 
-abbrev SmallDma : Dma → Type 0
+abbrev pub SmallDma : Dma → Type 0
 SmallDma d = (n : ℕ) → SmallChannel (chan d n)
 
 four-small : (a b c d : Channel) → SmallChannel a → SmallChannel b → SmallChannel c → SmallChannel d → (n : ℕ) → SmallChannel (getD (a ∷ b ∷ c ∷ d ∷ []) n none)
@@ -327,15 +337,18 @@ module _ (d : Dma) (s : SmallDma d) where
       last = DmaCycle.lastOf (chan d (d .channel)) e
 
 -- The board.
-record Sized (b : Board) : Type 0 where
-  icu : SmallIcu (b .icu)
-  intp : b .intp < 256
-  timer : SmallTimer (b .timer)
-  dma : SmallDma (b .dma)
+pub record Sized (b : Board) : Type 0 where
+  pub icu : SmallIcu (b .icu)
+  pub intp : b .intp < 256
+  pub timer : SmallTimer (b .timer)
+  pub dma : SmallDma (b .dma)
 
-lines-small : (i : ℕ) (t : Timer) → i < 256 → linesAt i t < 256
+pub lines-by-small : (i : ℕ) (q : Bool) → i < 256 → linesBy i q < 256
+lines-by-small i q h = either (λ (x : ℕ). x < 256) q (λ _. with-byte i 0 h (omega arith)) (λ _. without-byte i 0 h)
+
+pub lines-small : (i : ℕ) (t : Timer) → i < 256 → linesAt i t < 256
 unfolding linesAt
-lines-small i t h = either (λ (x : ℕ). x < 256) (at t 0 .out) (λ _. with-byte i 0 h (omega arith)) (λ _. without-byte i 0 h)
+lines-small i t h = lines-by-small i (at t 0 .out) h
 
 advanced : (i : ℕ) (t : Timer) (c : Icu) (n : ℕ) → i < 256 → SmallTimer t → SmallIcu c
     → SmallTimer (advancedOf i t c n .timer) × SmallIcu (advancedOf i t c n .icu)
@@ -404,7 +417,7 @@ module _ (b : Board) (s : Sized b) where
         either B (blocked b (Cycle (eqb (byte r 1) 1) (byte r 2))) (λ _. s)
         (λ _. with-dma _ (dma-cycle (b .dma) (s .dma) (eqb (byte r 1) 1) (byte r 2) m))
 
-    step-sized : Sized (stepOf b r m .board)
+    pub step-sized : Sized (stepOf b r m .board)
     unfolding stepOf answeredOf
     step-sized = execute (decodeOf r) (decodes r)
 
@@ -430,7 +443,7 @@ append-bytes [] t h k i = k i
 append-bytes (x ∷ l) t h k zero = h 0
 append-bytes (x ∷ l) t h k (suc i) = append-bytes l t (λ j. h (suc j)) k i
 
-record-bytes : (s : List ℕ) (i : ℕ) → Bytes s → (j : ℕ) → byte (recordAt s i) j < 256
+pub record-bytes : (s : List ℕ) (i : ℕ) → Bytes s → (j : ℕ) → byte (recordAt s i) j < 256
 unfolding recordAt
 record-bytes s i h zero = h (8 * i)
 record-bytes s i h (suc zero) = h (8 * i + 1)
@@ -442,17 +455,17 @@ record-bytes s i h (suc (suc (suc (suc (suc (suc zero)))))) = h (8 * i + 6)
 record-bytes s i h (suc (suc (suc (suc (suc (suc (suc zero))))))) = h (8 * i + 7)
 record-bytes s i h (suc (suc (suc (suc (suc (suc (suc (suc j)))))))) = omega arith
 
-after-sized : (b : Board) (m s : List ℕ) (n : ℕ) → Bytes s → Sized b → Sized (after b m s n .board)
+pub after-sized : (b : Board) (m s : List ℕ) (n : ℕ) → Bytes s → Sized b → Sized (after b m s n .board)
 unfolding after
 after-sized b m s zero h g = g
 after-sized b m s (suc n) h g = step-sized (after b m s n .board) (after-sized b m s n h g) (recordAt s n) (after b m s n .memory) (record-bytes s n h)
 
-record Keeps (b : Board) : Type 0 where
-  seven : length (b .kept .bytes) ≡ 7
-  bytes : Bytes (b .kept .bytes)
-  sized : Sized b
+pub record Keeps (b : Board) : Type 0 where
+  pub seven : length (b .kept .bytes) ≡ 7
+  pub bytes : Bytes (b .kept .bytes)
+  pub sized : Sized b
 
-call-bytes : (b : Board) (t : List ℕ) → Keeps b → Bytes t → Bytes (bytesOf b t)
+pub call-bytes : (b : Board) (t : List ℕ) → Keeps b → Bytes t → Bytes (bytesOf b t)
 call-bytes b t k h = append-bytes (take (b .kept .length) (b .kept .bytes)) t (take-bytes (b .kept .length) (b .kept .bytes) (k .bytes)) h
 
 rest-bytes : (s : List ℕ) (n : ℕ) → Bytes s → Bytes (restAt s n)
@@ -466,7 +479,7 @@ rest-bytes s n h (suc (suc (suc (suc (suc zero))))) = h (8 * n + 5)
 rest-bytes s n h (suc (suc (suc (suc (suc (suc zero)))))) = h (8 * n + 6)
 rest-bytes s n h (suc (suc (suc (suc (suc (suc (suc i))))))) = omega arith
 
-reached-keeps : {b : Board} → Reached b → Keeps b
+pub reached-keeps : {b : Board} → Reached b → Keeps b
 unfolding freshOf fedOf restAt
 reached-keeps unfed =
     record {

@@ -40,9 +40,9 @@ use Rattle.board.specs.Wiring.{lines}
 use Rattle.board.specs.Advance.{advanceOf}
 use Rattle.board.specs.Step.{executeOf, blocked, outcomeOf, answeredOf, stepOf}
 use Rattle.tape.proofs.Decodes.{either, Decodes, malformed, reset, write, read, intp, gates, requests, acknowledge, advance, cycle, decodes}
-use Rattle.promises.proofs.Logic.{both-left, both-right}
+use Rattle.promises.proofs.Logic.{both-left, both-right, and-true}
 use Rattle.promises.proofs.Ruled as Ruled
-use Rattle.promises.proofs.Ruled.{formed, levelsFit, outOfTurn, notBuilt, intLow, countsOne, due, earlyWord, unbuiltWord, modeless, earlyCount, unbuiltControl, unbuiltRegister, tooSmall, completesOne}
+use Rattle.promises.proofs.Ruled.{formed, levelsFit, outOfTurn, notBuilt, countsOne, due, earlyWord, unbuiltWord, modeless, earlyCount, unbuiltControl, unbuiltRegister, tooSmall, completesOne}
 
 -- The three groups of ports.
 pub data Port (p : ℕ) : Type 0 where
@@ -80,10 +80,6 @@ open-to p v w h = go (ltb p 2) (leb 16 p) (ltb p 20) (leb 32 p) (ltb p 48) v ref
     go false true true d e false x y z s t h = dma d e s t h
     go false true false d e v x y z s t h = dma d e s t h
     go false false c d e v x y z s t h = dma d e s t h
-
-and-true : (q : Bool) → (q and true) ≡ q
-and-true true = refl
-and-true false = refl
 
 pub writable-port : (p : ℕ) → writable p ≡ true → Port p
 unfolding writable
@@ -148,25 +144,23 @@ icu-read c k l = go (eqb (c .stage) 3) k (c .showsisr)
     go true false false = refl
     go false k v = refl
 
-icu-acknowledge : (c : Icu) (l : ℕ)
-    → IcuService.acknowledgeOf c l .status ≡ (if not (IcuWords.ready c) then 3 else if not (intOf c l) then 5 else 0)
+icu-acknowledge : (c : Icu) (l : ℕ) → IcuService.acknowledgeOf c l .status ≡ (if not (IcuWords.ready c) then 3 else 0)
 unfolding IcuService.acknowledgeOf
 icu-acknowledge c l = go (eqb (c .stage) 3) (intOf c l) (c .vector)
   where
     n : ℕ
     n = IcuService.takes c l
 
+    named : Bool → ℕ → Icu → IcuAnswers.Told
+    named v k d = if v then IcuAnswers.telling d (IcuService.vectorOf c k) else IcuAnswers.calling d (IcuService.callLowOf c k) (c .iw2)
+
     go : (u i v : Bool)
-        → (if u then
-        (if i then
-        (if v then IcuAnswers.telling (IcuService.servedOf c n) (IcuService.vectorOf c n)
-        else IcuAnswers.calling (IcuService.servedOf c n) (IcuService.callLowOf c n) (c .iw2))
-        else IcuAnswers.refused 5 c)
-        else IcuAnswers.refused 3 c) .status
-        ≡ (if not u then 3 else if not i then 5 else 0)
+        → (if u then (if i then named v n (IcuService.servedOf c n) else named v 7 c) else IcuAnswers.refused 3 c) .status
+        ≡ (if not u then 3 else 0)
     go true true true = refl
     go true true false = refl
-    go true false v = refl
+    go true false true = refl
+    go true false false = refl
     go false i v = refl
 
 -- The timer.
@@ -471,7 +465,7 @@ gated b false o k h = h
 
 module _ (b : Board) (r m : List ℕ) where
   by : (x : Decoded) → Decodes r x → asked x ≡ formed r → outcomeOf b x m .status ≡ due b r
-  unfolding outcomeOf executeOf blocked Ruled.held outOfTurn notBuilt intLow countsOne advanceOf cycleOf
+  unfolding outcomeOf executeOf blocked Ruled.held outOfTurn notBuilt countsOne advanceOf cycleOf
   by x malformed f = rw (← f)
   by x (reset o) f = rw (← f, eqb-true (byte r 0) 0 o) (gated b (blocked b Reset) (executeOf b Reset m) 0 refl)
   by x (write o p) f =

@@ -18,7 +18,7 @@ use Rattle.icu.specs.Fields.{edges-is, isr-is, lowest-is}
 use Rattle.icu.specs.Answers.{Told, telling, calling}
 use Rattle.icu.specs.Words.{ready, ag4}
 use Rattle.icu.specs.Requests.{askedOf, outranksAll, intOf}
-use Rattle.icu.specs.Service.{takes, servedOf, vectorOf, callLowOf, acknowledgeOf}
+use Rattle.icu.specs.Service.{takes, servedOf, vectorOf, callLowOf, naming, acknowledgeOf}
 use Rattle.dma.specs.declared.Dma.{Dma}
 use Rattle.dma.specs.Fields.{chan}
 use Rattle.dma.specs.Cycle as DmaCycle
@@ -26,48 +26,51 @@ use Rattle.dma.specs.Cycle.{channelAt, winnerFrom, winner, nothingOf, grantedOf
 use Rattle.board.specs.declared.Board.{Board}
 use Rattle.board.specs.declared.Stepped.{Stepped}
 use Rattle.board.specs.Operations.{Outcome, done, refused, icuTold, payloadOf, cycleOf, cycleMemory}
-use Rattle.board.specs.Wiring.{freshOf, resetOf, icu-is, dma-is, lines, int}
+use Rattle.board.specs.Wiring.{freshOf, resetOf, icu-is, dma-is, lines, int, levelsOf}
 use Rattle.board.specs.Step.{executeOf, memoryAfter, blocked, outcomeOf, memoryOf, answeredOf, stepOf, stepMemory}
 use Rattle.promises.specs.Records.{resetting, acknowledging, cyclingWith}
 use Rattle.promises.specs.Words.{Highest, askedFor, ahead, asks, Foremost}
 use Rattle.promises.specs.Reached.{Reached}
-use Rattle.promises.specs.Meant.{Takes, Grants}
+use Rattle.promises.specs.Meant.{Names, Takes, Grants}
 use Rattle.promises.proofs.Logic.{both-left, both-right}
 use Rattle.promises.proofs.Runs.{reached-sound}
 use Rattle.promises.proofs.IcuKept.{found}
-use Rattle.promises.proofs.BoardKept.{reached-held}
-use Rattle.promises.proofs.Sizes.{reached-typed}
 use Rattle.promises.proofs.Highest.{highest-is, highest-of, cleared, added}
-use Rattle.promises.proofs.Requested.{asked-bit}
+use Rattle.promises.proofs.Requested.{Fit, reached-fit, asked-bit}
 
--- What the chip tells.
-module _ (c : Icu) (l : ℕ) (set : ready c ≡ true) (high : intOf c l ≡ true) where
-  abbrev tells : Bool → Told
-  tells v = if v then telling (servedOf c (takes c l)) (vectorOf c (takes c l)) else calling (servedOf c (takes c l)) (callLowOf c (takes c l)) (c .iw2)
+-- What the chip tells: with INT high the level taken, with INT low level 7.
+pub told-high : (c : Icu) (l : ℕ) → ready c ≡ true → intOf c l ≡ true → acknowledgeOf c l ≡ naming c (takes c l) (servedOf c (takes c l))
+unfolding acknowledgeOf
+told-high c l set high = rw (set, high)
 
-  told : acknowledgeOf c l ≡ tells (c .vector)
-  unfolding acknowledgeOf
-  told = rw (set, high)
+pub told-low : (c : Icu) (l : ℕ) → ready c ≡ true → intOf c l ≡ false → acknowledgeOf c l ≡ naming c 7 c
+unfolding acknowledgeOf
+told-low c l set low = rw (set, low)
 
-  told-icu : acknowledgeOf c l .icu ≡ servedOf c (takes c l)
-  told-icu = ap (λ (t : Told). t .icu) told ∙ go (c .vector)
+-- The bytes that name level n, and the chip d with them.
+module _ (c : Icu) (n : ℕ) (d : Icu) where
+  abbrev pub named : Bool → Told
+  named v = if v then telling d (vectorOf c n) else calling d (callLowOf c n) (c .iw2)
+
+  pub named-icu : naming c n d .icu ≡ d
+  named-icu = go (c .vector)
     where
-      go : (v : Bool) → tells v .icu ≡ servedOf c (takes c l)
+      go : (v : Bool) → named v .icu ≡ d
       go true = refl
       go false = refl
 
-  told-status : acknowledgeOf c l .status ≡ 0
-  told-status = ap (λ (t : Told). t .status) told ∙ go (c .vector)
+  pub named-status : naming c n d .status ≡ 0
+  named-status = go (c .vector)
     where
-      go : (v : Bool) → tells v .status ≡ 0
+      go : (v : Bool) → named v .status ≡ 0
       go true = refl
       go false = refl
 
-  told-call : c .vector ≡ false → acknowledgeOf c l .payload ≡ 205 ∷ callLowOf c (takes c l) ∷ c .iw2 ∷ []
-  told-call v = ap (λ (t : Told). t .payload) told ∙ ap (λ (q : Bool). tells q .payload) v
+  named-call : c .vector ≡ false → naming c n d ≡ calling d (callLowOf c n) (c .iw2)
+  named-call v = ap named v
 
-  told-vector : c .vector ≡ true → acknowledgeOf c l .byte ≡ vectorOf c (takes c l)
-  told-vector v = ap (λ (t : Told). t .byte) told ∙ ap (λ (q : Bool). tells q .byte) v
+  named-vector : c .vector ≡ true → naming c n d ≡ telling d (vectorOf c n)
+  named-vector v = ap named v
 
 -- The record, with the bus free.
 acknowledged : (b : Board) (m : List ℕ) → b .dma .serving ≡ false
@@ -90,7 +93,7 @@ module _ (c : Icu) (n : ℕ) (h : n < 8) where
       (if rotates then lowest-is n (edges-is (withoutOf (c .edges) n) c) else edges-is (withoutOf (c .edges) n) c)
       else isr-is (withOf (c .isr) n) (edges-is (withoutOf (c .edges) n) c)
 
-  served-edges : c .edges < 256 → (k : ℕ) → k < 8 → bitOf (servedOf c n .edges) k ≡ (bitOf (c .edges) k and not (eqb k n))
+  pub served-edges : c .edges < 256 → (k : ℕ) → k < 8 → bitOf (servedOf c n .edges) k ≡ (bitOf (c .edges) k and not (eqb k n))
   unfolding servedOf
   served-edges e k l = ap (λ (x : ℕ). bitOf x k) (go (c .sfi) (c .rotation)) ∙ cleared (c .edges) n k e h l
     where
@@ -121,48 +124,95 @@ module _ (c : Icu) (n : ℕ) (h : n < 8) where
       go true false = refl
       go false q = refl
 
-pub level-taken : {b : Board} → Reached b → (m : List ℕ) → b .dma .serving ≡ false → int b ≡ true
-    → (n : ℕ) × Highest (askedFor b) (b .icu .lowest) n × Takes b m n
-unfolding intOf vectorOf callLowOf answeredOf answerOf
-level-taken {b} r m free high =
+-- An acknowledge that is told so.
+module _ (b : Board) (m : List ℕ) (free : b .dma .serving ≡ false) (n : ℕ) (small : n < 8) (d : Icu)
+    (told : acknowledgeOf (b .icu) (lines b) ≡ naming (b .icu) n d) where
+  stepped-so : stepOf b acknowledging m ≡ answeredOf 4 (icuTold b (naming (b .icu) n d))
+  stepped-so = acknowledged b m free ∙ ap (λ (t : Told). answeredOf 4 (icuTold b t)) told
+
+  board-so : stepOf b acknowledging m .board ≡ icu-is d b
+  unfolding answeredOf
+  board-so = ap (λ (s : Stepped). s .board) stepped-so ∙ ap (λ (i : Icu). icu-is i b) (named-icu (b .icu) n d)
+
+  names-so : Names b m n
+  unfolding answeredOf answerOf vectorOf callLowOf
+  names-so =
+      let c = b .icu in
+      let same : n % 8 ≡ n = mod-eq-of-lt small in
+      record {
+        vector = λ v.
+            whole
+            ∙ ap (λ (t : Told). answer t) (named-vector c n d v)
+            ∙ ap (λ (x : ℕ). answer (telling d (c .iw2 / 8 * 8 + x))) same;
+        call = λ v.
+            whole
+            ∙ ap (λ (t : Told). answer t) (named-call c n d v)
+            ∙ ap (λ (x : ℕ). answer (calling d (if ag4 c then c .iw1 / 32 * 32 + x * 4 else c .iw1 / 64 * 64 + x * 8) (c .iw2))) same;
+      }
+    where
+      -- the answer to what the chip tells, with the levels of the board after it
+      answer : Told → List ℕ
+      answer t = t .status ∷ 4 ∷ t .byte ∷ levelsOf (stepOf b acknowledging m .board) ∷ twelve (t .payload)
+
+      whole : stepOf b acknowledging m .answer ≡ answer (naming (b .icu) n d)
+      whole =
+          ap (λ (o : Stepped). o .answer) stepped-so
+          ∙ ap (λ (e : Board). naming (b .icu) n d .status ∷ 4 ∷ naming (b .icu) n d .byte ∷ levelsOf e ∷ twelve (naming (b .icu) n d .payload))
+          (sym (ap (λ (o : Stepped). o .board) stepped-so))
+
+-- With INT high, the highest-ranked level asked for is taken.
+pub highest-asked : (b : Board) → Fit b → int b ≡ true → (n : ℕ) × Highest (askedFor b) (b .icu .lowest) n × (takes (b .icu) (lines b) ≡ n)
+unfolding intOf
+highest-asked b f high =
     let c = b .icu in
-    let set = both-left (ready c) _ high in
-    let low = reached-held r .icu .lowest in
-    let f = found (λ n. bitOf (askedOf c (lines b)) n and outranksAll c n) 8 (both-right (ready c) _ high) in
-    let q = highest-of (askedOf c (lines b)) (c .lowest) (f .0) low (f .1) (both-left (bitOf (askedOf c (lines b)) (f .0)) (outranksAll c (f .0)) (f .2)) in
+    let w = found (λ n. bitOf (askedOf c (lines b)) n and outranksAll c n) 8 (both-right (ready c) _ high) in
+    let q = highest-of (askedOf c (lines b)) (c .lowest) (w .0) (f .lowest) (w .1) (both-left (bitOf (askedOf c (lines b)) (w .0)) (outranksAll c (w .0)) (w .2)) in
     let n = q .0 in
-    let h = q .1 in
-    let t = reached-typed r in
-    let a = acknowledged b m free in
-    let e : takes c (lines b) ≡ n = highest-is (askedOf c (lines b)) (c .lowest) n low h in
-    let i : takes c (lines b) % 8 ≡ n = ap (λ (x : ℕ). x % 8) e ∙ mod-eq-of-lt (h .level) in
-    let s : stepOf b acknowledging m .board ≡ icu-is (servedOf c n) b =
-    ap (λ (o : Stepped). o .board) a ∙ ap (λ (i : Icu). icu-is i b) (told-icu c (lines b) set high ∙ ap (servedOf c) e) in (
+    let h = q .1 in (
       n,
       record {
         level = h .level;
-        chosen = sym (asked-bit r n (h .level)) ∙ h .chosen;
-        over = λ k l s ne. h .over k l (asked-bit r k l ∙ s) ne;
+        chosen = sym (asked-bit b f n (h .level)) ∙ h .chosen;
+        over = λ k l s ne. h .over k l (asked-bit b f k l ∙ s) ne;
       },
+      highest-is (askedOf c (lines b)) (c .lowest) n (f .lowest) h,
+    )
+
+pub level-taken : {b : Board} → Reached b → (m : List ℕ) → b .dma .serving ≡ false → int b ≡ true
+    → (n : ℕ) × Highest (askedFor b) (b .icu .lowest) n × Takes b m n
+unfolding intOf
+level-taken {b} r m free high =
+    let c = b .icu in
+    let f = reached-fit r in
+    let q = highest-asked b f high in
+    let n = q .0 in
+    let small = q .1 .level in
+    let told : acknowledgeOf c (lines b) ≡ naming c n (servedOf c n) =
+    told-high c (lines b) (both-left (ready c) _ high) high ∙ ap (λ (i : ℕ). naming c i (servedOf c i)) (q .2) in
+    let s = board-so b m free n small (servedOf c n) told in (
+      n,
+      q .1,
       record {
-        status = ap (λ (o : Stepped). getD (o .answer) 0 0) a ∙ told-status c (lines b) set high;
+        names = names-so b m free n small (servedOf c n) told;
         board = s;
-        edges = λ k l. ap (λ (d : Board). bitOf (d .icu .edges) k) s ∙ served-edges c n (h .level) (t .edges) k l;
-        isr = λ k l. ap (λ (d : Board). bitOf (d .icu .isr) k) s ∙ served-isr c n (h .level) (t .isr) k l;
-        lowest = ap (λ (d : Board). d .icu .lowest) s ∙ served-lowest c n (h .level);
-        vector = λ v. ap (λ (o : Stepped). getD (o .answer) 2 0) a
-            ∙ told-vector c (lines b) set high v
-            ∙ ap (λ (x : ℕ). c .iw2 / 8 * 8 + x) i;
-        call = λ v.
-            let p = told-call c (lines b) set high v in (
-              ap (λ (o : Stepped). getD (o .answer) 4 0) a ∙ ap (λ (x : List ℕ). getD x 0 0) p,
-              ap (λ (o : Stepped). getD (o .answer) 5 0) a
-                  ∙ ap (λ (x : List ℕ). getD x 1 0) p
-                  ∙ ap (λ (x : ℕ). if ag4 c then c .iw1 / 32 * 32 + x * 4 else c .iw1 / 64 * 64 + x * 8) i,
-              ap (λ (o : Stepped). getD (o .answer) 6 0) a ∙ ap (λ (x : List ℕ). getD x 2 0) p,
-            );
+        edges = λ k l. ap (λ (d : Board). bitOf (d .icu .edges) k) s ∙ served-edges c n small (f .edges) k l;
+        isr = λ k l. ap (λ (d : Board). bitOf (d .icu .isr) k) s ∙ served-isr c n small (f .isr) k l;
+        lowest = ap (λ (d : Board). d .icu .lowest) s ∙ served-lowest c n small;
       },
     )
+
+-- With INT low, level 7 is answered, and nothing changes.
+pub spurious : (b : Board) (m : List ℕ) → b .dma .serving ≡ false → b .icu .stage ≡ 3 → int b ≡ false
+    → (stepOf b acknowledging m .board ≡ b) × (stepMemory b acknowledging m ≡ m) × Names b m 7
+unfolding stepMemory decodeOf unused memoryOf memoryAfter blocked
+spurious b m free set low =
+    let told = told-low (b .icu) (lines b) (eq-eqb (b .icu .stage) 3 set) low in
+    let seven : 7 < 8 = omega arith in
+    (board-so b m free 7 seven (b .icu) told, memory-so (b .dma .serving), names-so b m free 7 seven (b .icu) told)
+  where
+    memory-so : (q : Bool) → (if q and true then m else m) ≡ m
+    memory-so true = refl
+    memory-so false = refl
 
 -- What the board tells of a cycle.
 abbrev told-of : Board → DmaCycle.Out → Outcome

@@ -34,7 +34,7 @@ use Rattle.promises.proofs.Counters.{writes-reading, reads-writing, rea
 use Rattle.promises.proofs.Plain.{write-leaves, read-leaves, mask-written, irr-read, finish-written, finish-status, finished-is, finished-none, value-stays, pulsed, gates-set, pulse-at, gate-at, loads-nothing}
 use Rattle.promises.proofs.Advances.{counter-alone}
 use Rattle.promises.proofs.Block.{Goes, going, moved, stopped, shut}
-use Rattle.promises.proofs.Requested.{irr-bit, masked-rise-shows}
+use Rattle.promises.proofs.Requested.{reached-fit, irr-bit, masked-rise-shows}
 use Rattle.promises.proofs.Taken.{ready-asks}
 use Rattle.promises.proofs.Loads as loads
 use Rattle.promises.proofs.HalfRead as half
@@ -62,7 +62,7 @@ taught =
         ap (λ (d : Board). getD (stepOf d (reading 0) m .answer) 2 0) (mask-written b m free set x)
             ∙ irr-read (icu-is (imr-is x (b .icu)) b) m free set irr
             ∙ sym (irr-read b m free set irr),
-        λ k l. ap (λ (v : ℕ). bitOf v k) (irr-read b m free set irr) ∙ irr-bit r k l,
+        λ k l. ap (λ (v : ℕ). bitOf v k) (irr-read b m free set irr) ∙ irr-bit b (reached-fit r) k l,
       );
       masked-rise-shows = masked-rise-shows;
       write-loads-nothing = loads-nothing;

@@ -1,5 +1,5 @@
 -- The worked boards, by computing; and what is taught, said of them.
-use mathlib.Core.Path.{_≡_, refl}
+use mathlib.Core.Path.{_≡_, refl, ap}
 use mathlib.Core.List.{[], _∷_, _++_}
 use mathlib.Core.Bool.{true, false}
 use Prim.Native.Nat.{ℕ, zero, suc, _<_}
@@ -12,15 +12,17 @@ use Rattle.board.specs.Wiring.{freshOf}
 use Rattle.board.specs.Records.{recordAt, after}
 use Rattle.promises.specs.Records.{pulsing, cycling, joined}
 use Rattle.promises.specs.Table.{formed, uses, among}
-use Rattle.promises.specs.Words.{answerAt, answersIn, unitsOf, Calm, asks}
+use Rattle.promises.specs.Words.{answerAt, answersIn, unitsOf, dataIn, Calm, asks}
 use Rattle.promises.specs.Reached.{Reached, unfed, fed}
 use Rattle.promises.specs.TaughtWords.{low-byte, reloadsNext, Clocks, a-pulse, the-gates, Unread, readAt, plainCycle, Alone}
 use Rattle.promises.specs.Waves.{Loaded}
-use Rattle.promises.specs.Worked.{setup, further, memory, board, timing, dividing, pulses, armed, started, retriggering, starting, halved, between, latched, busy, requesting, waiting, serving, cycles, Worked}
+use Rattle.promises.specs.Worked.{setup, further, memory, board, timing, dividing, pulses, armed, started, retriggering, starting, halved, between, latched, busy, requesting, waiting, serving, cycles, bouncing, beating, ticking, masking, outranked, Worked}
 use Rattle.promises.proofs.Opened.{rules}
 use Rattle.promises.proofs.Sizes.{areBytes, small-bytes}
 use Rattle.promises.proofs.Taught.{taught}
 use Rattle.promises.proofs.Modes.{modes}
+use Rattle.promises.proofs.Withdrawn.{withdrawn}
+use Rattle.promises.proofs.Meant.{meant}
 
 calm : Calm board memory further 5
 unfolding rules setup further memory board answerAt answersIn unitsOf joined
@@ -99,7 +101,7 @@ reached-serving =
     fed (joined (requesting 4 ++ cycling 7 ∷ [])) [] 80 (small-bytes (joined (requesting 4 ++ cycling 7 ∷ [])) refl) (small-bytes [] refl) unfed
 
 pub worked : Worked
-unfolding rules setup further memory board timing dividing pulses armed started retriggering halved between latched busy requesting waiting serving cycles answerAt answersIn unitsOf joined areBytes among
+unfolding rules setup further memory board timing dividing pulses armed started retriggering halved between latched busy requesting waiting serving cycles bouncing beating ticking masking outranked answerAt answersIn unitsOf joined areBytes among
 worked =
     record {
       reached = fed setup memory 80 (small-bytes setup refl) (small-bytes memory refl) unfed;
@@ -120,5 +122,24 @@ worked =
       waiting-reached = reached-waiting;
       serving-reached = reached-serving;
       singly = taught .single-moves-one-more {b = waiting} reached-waiting [] cycles 0 2 (omega arith) refl refl alone refl refl plain .0 3 (omega arith) .0;
+      pressed =
+          withdrawn .from-reset [] bouncing (small-bytes bouncing refl) 4 3 (omega arith) refl .1
+          (refl, record { at = 3; before = omega arith; ready = refl; rises = refl; since = λ j l g. absurd (omega arith) });
+      bounced = refl;
+      answered-7 = ap dataIn (meant .spurious (after freshOf [] bouncing 5 .board) [] refl refl refl .2 .vector refl);
+      none-served = refl;
+      beat = refl;
+      beat-over = refl;
+      next-beat =
+          withdrawn .from-reset [] beating (small-bytes beating refl) 6 0 (omega arith) refl .1
+          (refl, record { at = 5; before = omega arith; ready = refl; rises = refl; since = λ j l g. absurd (omega arith) });
+      tick-taken = refl;
+      tick-again =
+          withdrawn .from-reset [] ticking (small-bytes ticking refl) 6 0 (omega arith) refl .1
+          (refl, record { at = 5; before = omega arith; ready = refl; rises = refl; since = λ j l g. absurd (omega arith) });
+      masked-7 = ap dataIn (meant .spurious (after freshOf [] masking 7 .board) [] refl refl refl .2 .vector refl);
+      still-masked = (refl, refl);
+      outranked-7 = ap dataIn (meant .spurious (after freshOf [] outranked 6 .board) [] refl refl refl .2 .vector refl);
+      still-served = refl;
       demanded = taught .held-moves-one-more {b = serving} reached-serving [] cycles 0 2 refl refl refl refl (λ i l. plain i (omega arith)) .0;
     }

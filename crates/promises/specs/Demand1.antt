@@ -17,7 +17,7 @@ use Rattle.board.specs.Step.{stepOf, stepMemory}
 use Rattle.board.specs.Records.{recordAt, Run, after}
 use Rattle.intake.specs.Ranges.{inRange}
 use Rattle.intake.specs.Feed.{fedOf, fedMemory, fedAnswers}
-use Rattle.promises.specs.Table.{due, formed, held, outOfTurn, notBuilt, intLow, countsOne}
+use Rattle.promises.specs.Table.{due, formed, held, outOfTurn, notBuilt, countsOne}
 use Rattle.promises.specs.Words.{answerAt}
 
 -- The status of the record r on the board b with the memory m: byte 0 of its answer.
@@ -28,9 +28,15 @@ statusOf b r m = getD (stepOf b r m .answer) 0 0
 pub record OfRecord (b : Board) (r m : List ℕ) : Type 0 where
   -- The status is the one that the table gives.
   pub status-due : statusOf b r m ≡ due b r
-  -- Each record's status is one of 0 to 6.
-  -- Not so: a board that answers 7 to a record; one that has a number of its own for a port it does not know.
+  -- Each record's status is one of 0 to 6, and never 5: an acknowledge with INT low is answered, as level 7 (Meant.antt, spurious).
+  -- Not so: a board that answers 7 to a record; one that refuses an acknowledge with 5 because INT is low.
   pub record-status : statusOf b r m < 7
+  pub never-5 : statusOf b r m ≢ 5
+  -- An answer has sixteen bytes; byte 1 is the operation as it was read, byte 3 has the levels after the record.
+  -- Not so: a board whose levels come one record late; one that answers an unknown operation with another number.
+  pub answer-shape : (length (stepOf b r m .answer) ≡ 16)
+      × (getD (stepOf b r m .answer) 1 0 ≡ getD r 0 0)
+      × (getD (stepOf b r m .answer) 3 0 ≡ levelsOf (stepOf b r m .board))
   -- A record with another status than 0 leaves chips, lines and memory as they were. Its answer is fixed: the status, the operation as
   -- it was read, zero data, the levels as they are, and a payload of zeros.
   -- Not so: a board that drops a half-written count when it refuses; one that shows a refused read's byte all the same.
@@ -39,7 +45,7 @@ pub record OfRecord (b : Board) (r m : List ℕ) : Type 0 where
       × (stepMemory b r m ≡ m)
       × (stepOf b r m .answer
       ≡ statusOf b r m ∷ getD r 0 0 ∷ 0 ∷ levelsOf b ∷ 0 ∷ 0 ∷ 0 ∷ 0 ∷ 0 ∷ 0 ∷ 0 ∷ 0 ∷ 0 ∷ 0 ∷ 0 ∷ 0 ∷ [])
-  -- The rows of the table, each exactly when it says, and in the order of the checks: 2, 1, 3, 4, 5, 6.
+  -- The rows of the table, each exactly when it says, and in the order of the checks: 2, 1, 3, 4, 6.
   --
   -- 2: unknown operation, port or group; port not open to it; unused byte or level bit set; END over 1; pulses over 65,535.
   -- Not so: a board that lets an unused byte pass; one that refuses a malformed write with 1 while a channel is served.
@@ -53,18 +59,14 @@ pub record OfRecord (b : Board) (r m : List ℕ) : Type 0 where
   -- 4: not built.
   -- Not so: a board that takes a BCD word and counts in binary; one that refuses a latch for its mode bits.
   pub row-4 : (statusOf b r m ≡ 4) ↔ ((formed r and not (held b r) and not (outOfTurn b r) and notBuilt r) ≡ true)
-  -- 5: an acknowledge with INT low.
-  -- Not so: a board that gives a spurious level 7; one that gives 5 before the chip is ready.
-  pub row-5 : (statusOf b r m ≡ 5)
-      ↔ ((formed r and not (held b r) and not (outOfTurn b r) and not (notBuilt r) and intLow b r) ≡ true)
   -- 6: count 1 completed in mode 2 or 3.
   -- Not so: a board that refuses count 1 in mode 0, 1, 4 or 5; one that refuses the low byte 1 of a count of two bytes.
   pub row-6 : (statusOf b r m ≡ 6)
-      ↔ ((formed r and not (held b r) and not (outOfTurn b r) and not (notBuilt r) and not (intLow b r) and countsOne b r) ≡ true)
+      ↔ ((formed r and not (held b r) and not (outOfTurn b r) and not (notBuilt r) and countsOne b r) ≡ true)
   -- 0: done, exactly if no other row is met.
   -- Not so: a board that refuses everything; one that takes everything.
   pub row-0 : (statusOf b r m ≡ 0)
-      ↔ ((formed r and not (held b r) and not (outOfTurn b r) and not (notBuilt r) and not (intLow b r) and not (countsOne b r)) ≡ true)
+      ↔ ((formed r and not (held b r) and not (outOfTurn b r) and not (notBuilt r) and not (countsOne b r)) ≡ true)
 
 -- The bytes of a call: those that are kept, then the tape. They make k whole records.
 abbrev pub callBytes : Board → List ℕ → List ℕ

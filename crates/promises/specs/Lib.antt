@@ -8,6 +8,7 @@ pub mod TaughtWords
 pub mod Taught
 pub mod Modes
 pub mod Waves
+pub mod Withdrawn
 pub mod Meant
 pub mod Worked
 pub mod Examples

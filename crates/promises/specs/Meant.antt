@@ -1,19 +1,19 @@
--- What some words mean, held against second readings: the places, ranges and last answers of demand 3; INT, and the level that an acknowledge
--- takes; the channel that is granted; a reset.
+-- What some words mean, held against second readings: the places, ranges and last answers of demand 3; INT, the level that an acknowledge
+-- takes, and its answer with INT low; the channel that is granted; a reset.
 use mathlib.Core.Path.{_≡_}
 use mathlib.Core.List.{List, [], _∷_, _++_}
 use mathlib.Core.Bool.{Bool, true, false, not}
 use Prim.Native.Nat.{ℕ, suc, _+_, _*_, _/_, _≤_, _<_}
 use mathlib.Core.Logic.{_↔_, _⊎_}
 use lib.Dec.{eqb}
-use lib.ListN.{getD}
+use lib.ListN.{getD, replicate}
 use Rattle.bits.specs.Choice.{if_then_else_, _and_, _or_}
 use Rattle.bits.specs.Bits.{bitOf}
 use Rattle.dma.specs.declared.Span.{Span}
 use Rattle.dma.specs.Cycle.{stepped}
 use Rattle.icu.specs.Service.{servedOf}
 use Rattle.board.specs.declared.Board.{Board}
-use Rattle.board.specs.Wiring.{freshOf, icu-is, int}
+use Rattle.board.specs.Wiring.{freshOf, icu-is, int, levelsOf}
 use Rattle.board.specs.Step.{stepOf, stepMemory}
 use Rattle.promises.specs.Records.{resetting, acknowledging, cyclingWith}
 use Rattle.promises.specs.Words.{unitAt, lastAt, dataIn, placeOf, inside, before, Highest, askedFor, inService, asks, Foremost}
@@ -24,22 +24,28 @@ pub data None (w : ℕ → Bool) (p : ℕ) : List (List ℕ) → Type 0 where
   empty : None w p []
   misses : {a : List ℕ} {more : List (List ℕ)} → unitAt w p a ≡ false → None w p more → None w p (a ∷ more)
 
--- An acknowledge takes level n: its edge request goes, and its ISR bit is set, but not in self-FI, where rotation makes it lowest. Nothing else of
--- the board changes. In vector mode the data is IW2's upper five bits and n; in CALL mode the payload is CDH (205), the low address byte, of A7-A5 and 4 n
--- with AG4=1 (D2 of IW1) or A7-A6 and 8 n with AG4=0, and IW2.
+-- An acknowledge is answered as level n: status 0, operation 4, and the levels after it. In vector mode the data is IW2's upper five bits and n, and the payload zero; in CALL mode the data
+-- is zero, and the payload CDH (205), the low address byte, of A7-A5 and 4 n with AG4=1 (D2 of IW1) or A7-A6 and 8 n with AG4=0, IW2, and zeros.
+abbrev pub callLow : Board → ℕ → ℕ
+callLow b n = if bitOf (b .icu .iw1) 2 then b .icu .iw1 / 32 * 32 + n * 4 else b .icu .iw1 / 64 * 64 + n * 8
+
+pub record Names (b : Board) (m : List ℕ) (n : ℕ) : Type 0 where
+  pub vector : b .icu .vector ≡ true
+      → stepOf b acknowledging m .answer
+      ≡ 0 ∷ 4 ∷ (b .icu .iw2 / 8 * 8 + n) ∷ levelsOf (stepOf b acknowledging m .board) ∷ replicate 12 0
+  pub call : b .icu .vector ≡ false
+      → stepOf b acknowledging m .answer
+      ≡ 0 ∷ 4 ∷ 0 ∷ levelsOf (stepOf b acknowledging m .board) ∷ 205 ∷ callLow b n ∷ b .icu .iw2 ∷ replicate 9 0
+
+-- An acknowledge takes level n: it is answered so, its edge request goes, and its ISR bit is set; in self-FI ISR stays and, with rotation on, n becomes lowest. Nothing else of
+-- the board changes.
 pub record Takes (b : Board) (m : List ℕ) (n : ℕ) : Type 0 where
-  pub status : getD (stepOf b acknowledging m .answer) 0 0 ≡ 0
+  pub names : Names b m n
   pub board : stepOf b acknowledging m .board ≡ icu-is (servedOf (b .icu) n) b
   pub edges : (k : ℕ) → k < 8 → bitOf (stepOf b acknowledging m .board .icu .edges) k ≡ (bitOf (b .icu .edges) k and not (eqb k n))
   pub isr : (k : ℕ) → k < 8
       → bitOf (stepOf b acknowledging m .board .icu .isr) k ≡ (bitOf (b .icu .isr) k or (not (b .icu .sfi) and eqb k n))
   pub lowest : stepOf b acknowledging m .board .icu .lowest ≡ (if b .icu .sfi and b .icu .rotation then n else b .icu .lowest)
-  pub vector : b .icu .vector ≡ true → getD (stepOf b acknowledging m .answer) 2 0 ≡ b .icu .iw2 / 8 * 8 + n
-  pub call : b .icu .vector ≡ false
-      → (getD (stepOf b acknowledging m .answer) 4 0 ≡ 205)
-      × (getD (stepOf b acknowledging m .answer) 5 0
-      ≡ (if bitOf (b .icu .iw1) 2 then b .icu .iw1 / 32 * 32 + n * 4 else b .icu .iw1 / 64 * 64 + n * 8))
-      × (getD (stepOf b acknowledging m .answer) 6 0 ≡ b .icu .iw2)
 
 -- A DMA cycle with END e and the byte x grants the bus to channel n; nothing moves, and END is no end.
 pub record Grants (b : Board) (e x : ℕ) (m : List ℕ) (n : ℕ) : Type 0 where
@@ -87,6 +93,11 @@ pub record Meant : Type 0 where
   -- Not so: a board that takes the lowest number, whatever its rank; one that takes a masked level.
   pub level-taken : {b : Board} → Reached b → (m : List ℕ) → b .dma .serving ≡ false → int b ≡ true
       → (n : ℕ) × Highest (askedFor b) (b .icu .lowest) n × Takes b m n
+  -- With INT low, for whatever reason, the chip ready and the bus free, an acknowledge is answered as level 7 and leaves the whole board and the memory as they were: no ISR bit, no
+  -- request, no rank changes, in self-FI too.
+  -- Not so: a board that sets ISR bit 7, or makes level 7 lowest; one that takes a masked level, or clears its request; one that answers as the level in service.
+  pub spurious : (b : Board) (m : List ℕ) → b .dma .serving ≡ false → b .icu .stage ≡ 3 → int b ≡ false
+      → (stepOf b acknowledging m .board ≡ b) × (stepMemory b acknowledging m ≡ m) × Names b m 7
   -- With the bus free, the chip enabled and some channel asking, a cycle grants the bus to the channel that asks and that no other one asking
   -- outranks, whatever END and the device have.
   -- Not so: a board that with END grants channel 0, whichever asks; one that goes on from the last served with fixed rank.

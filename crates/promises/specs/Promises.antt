@@ -6,6 +6,7 @@ use Rattle.promises.specs.Reached.{ReachedBoards}
 use Rattle.promises.specs.Taught.{Taught}
 use Rattle.promises.specs.Modes.{Modes}
 use Rattle.promises.specs.Waves.{Waves}
+use Rattle.promises.specs.Withdrawn.{Withdrawn}
 use Rattle.promises.specs.Meant.{Meant}
 use Rattle.promises.specs.Worked.{Worked}
 use Rattle.promises.specs.Examples.{Examples}
@@ -17,6 +18,7 @@ pub record Promises : Type 0 where
   pub taught : Taught
   pub modes : Modes
   pub waves : Waves
+  pub withdrawn : Withdrawn
   pub meant : Meant
   pub worked : Worked
   pub examples : Examples

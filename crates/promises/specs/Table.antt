@@ -1,5 +1,5 @@
 -- The table of the status numbers, read again: what each row says of a record r that comes to a board b, in the numbers and bits of the
--- document, and in none of the words of the rules but INT (which Meant.antt reads again). Numbers are decimal here; 10H is 16, 20H is 32,
+-- document, and in none of the words of the rules. Status 5 has no row: it is never given. Numbers are decimal here; 10H is 16, 20H is 32,
 -- 30H is 48.
 use mathlib.Core.Bool.{Bool, false, not}
 use mathlib.Core.List.{List, [], _∷_}
@@ -13,7 +13,6 @@ use Rattle.timer.specs.declared.Counter.{Counter}
 use Rattle.timer.specs.declared.Timer.{Timer}
 use Rattle.timer.specs.Timer.{at}
 use Rattle.board.specs.declared.Board.{Board}
-use Rattle.board.specs.Wiring.{int}
 
 -- x is one of some numbers.
 unfoldable pub among : ℕ → List ℕ → Bool
@@ -137,10 +136,6 @@ notBuilt r =
     else among (byte1 r) (44 ∷ 45 ∷ 46 ∷ []))
     else eqb (op r) 2 and among (byte1 r) (44 ∷ 45 ∷ 46 ∷ [])
 
--- Row 5: an acknowledge with INT low.
-unfoldable pub intLow : Board → List ℕ → Bool
-intLow b r = eqb (op r) 4 and not (int b)
-
 -- Row 6: a count byte x that completes a count of 1 in mode 2 or 3: as the one byte of a low-byte count (format 1), or as the high byte of two (a format that is
 -- neither 1, low, nor 2, high), with the low one kept. A high-byte count is a multiple of 256, and never 1.
 abbrev pub completesOne : Counter → ℕ → Bool
@@ -155,14 +150,13 @@ countsOne b r =
     else if eqb (byte1 r) 17 then completesOne (at (b .timer) 1) (byte2 r)
     else eqb (byte1 r) 18 and completesOne (at (b .timer) 2) (byte2 r))
 
--- The status that the table gives, in the order of the checks: 2, 1, 3, 4, 5, 6.
+-- The status that the table gives, in the order of the checks: 2, 1, 3, 4, 6.
 abbrev pub due : Board → List ℕ → ℕ
 due b r =
     if formed r then
     (if held b r then 1
     else if outOfTurn b r then 3
     else if notBuilt r then 4
-    else if intLow b r then 5
     else if countsOne b r then 6
     else 0)
     else 2

@@ -1,5 +1,5 @@
 -- The words of the statements: what an answer reports, where a channel moves its units, which bytes are in its range, what disturbs
--- the DMA chip, and which of some levels or channels is the highest-ranked.
+-- the DMA chip, which of some levels or channels is the highest-ranked, and what the interrupt chip's lines, requests and levels in service are.
 use mathlib.Core.Path.{_≡_}
 use mathlib.Core.List.{List, [], _∷_, _++_}
 use mathlib.Core.Bool.{Bool, true, false, not}

@@ -1,7 +1,8 @@
--- Boards and tapes of which demand 3 and the statements on loading, half reads, latches and units speak, each from reset by a short tape: so these are not
--- about nothing. (Of interrupts the examples are such tapes.)
+-- Boards and tapes of which demand 3 and the statements on loading, triggers, waves, half reads, latches, units and withdrawn requests speak, each from reset by a short
+-- tape: so these are not about nothing. (For the other statements on interrupts, see the tapes of Examples.antt.)
 use mathlib.Core.Path.{_≡_}
 use mathlib.Core.List.{List, [], _∷_, _++_}
+use mathlib.Core.Bool.{true, false}
 use Prim.Native.Nat.{ℕ, _+_, _*_, _<_}
 use lib.ListN.{length, replicate}
 use Rattle.timer.specs.Timer.{at}
@@ -10,8 +11,8 @@ use Rattle.board.specs.Wiring.{freshOf}
 use Rattle.board.specs.Step.{stepOf}
 use Rattle.board.specs.Records.{after}
 use Rattle.intake.specs.Feed.{fedOf}
-use Rattle.promises.specs.Records.{writing, setting, advancing, pulsing, cycling, joined}
-use Rattle.promises.specs.Words.{answersIn, unitsOf, dataIn, Calm}
+use Rattle.promises.specs.Records.{writing, setting, acknowledging, advancing, pulsing, cycling, joined}
+use Rattle.promises.specs.Words.{answersIn, unitsOf, dataIn, Calm, requested}
 use Rattle.promises.specs.Reached.{Reached}
 use Rattle.promises.specs.TaughtWords.{loading, readAt, later}
 use Rattle.promises.specs.Waves.{Loaded}
@@ -82,6 +83,27 @@ serving = fedOf freshOf (joined (requesting 4 ++ cycling 7 ∷ [])) [] 80 .board
 unfoldable pub cycles : List ℕ
 cycles = joined (cycling 7 ∷ cycling 7 ∷ cycling 7 ∷ cycling 7 ∷ cycling 7 ∷ cycling 7 ∷ [])
 
+-- A bounce. The chip in edge trigger and vector mode, IW2 40H; line 3 rises, and falls before the acknowledge.
+unfoldable pub bouncing : List ℕ
+bouncing = joined (writing 0 19 ∷ writing 1 64 ∷ writing 1 1 ∷ setting 0 8 ∷ setting 0 0 ∷ acknowledging ∷ [])
+
+-- OUT0 as a line. Counter 0 in mode 2 with count 3: OUT0 rises with the mode word, falls within three pulses and rises with the next.
+unfoldable pub beating : List ℕ
+beating = joined (writing 0 18 ∷ writing 1 0 ∷ writing 19 20 ∷ writing 16 3 ∷ advancing 3 ∷ advancing 1 ∷ [])
+
+-- The same counter, acknowledged while OUT0 is high; and four pulses, within which OUT0 falls and rises.
+unfoldable pub ticking : List ℕ
+ticking = joined (writing 0 18 ∷ writing 1 0 ∷ writing 19 20 ∷ writing 16 3 ∷ acknowledging ∷ advancing 4 ∷ [])
+
+-- In self-FI with rotation, and level 2 lowest: level 3 is masked, its line rises, and an acknowledge finds INT low.
+unfoldable pub masking : List ℕ
+masking =
+    joined (writing 0 19 ∷ writing 1 64 ∷ writing 1 3 ∷ writing 0 128 ∷ writing 0 194 ∷ writing 1 8 ∷ setting 0 8 ∷ acknowledging ∷ [])
+
+-- Level 2 is in service, and line 3 rises.
+unfoldable pub outranked : List ℕ
+outranked = joined (writing 0 19 ∷ writing 1 64 ∷ writing 1 1 ∷ setting 0 4 ∷ acknowledging ∷ setting 0 12 ∷ acknowledging ∷ [])
+
 pub record Worked : Type 0 where
   pub reached : Reached board
   pub calm : Calm board memory further 5
@@ -110,3 +132,20 @@ pub record Worked : Type 0 where
   pub serving-reached : Reached serving
   pub singly : length (unitsOf 0 (answersIn (after waiting [] cycles 6 .answers) 6)) ≡ 3
   pub demanded : length (unitsOf 0 (answersIn (after serving [] cycles 3 .answers) 3)) ≡ 3
+  -- The rise is requested; the fall withdraws it, and the acknowledge is answered 47H (71), with nothing in service after it.
+  pub pressed : requested (after freshOf [] bouncing 4 .board) 3 ≡ true
+  pub bounced : requested (after freshOf [] bouncing 5 .board) 3 ≡ false
+  pub answered-7 : dataIn (stepOf (after freshOf [] bouncing 5 .board) acknowledging [] .answer) ≡ 71
+  pub none-served : after freshOf [] bouncing 6 .board .icu .isr ≡ 0
+  -- OUT0's request comes with its rise and goes with its fall.
+  pub beat : requested (after freshOf [] beating 4 .board) 0 ≡ true
+  pub beat-over : requested (after freshOf [] beating 5 .board) 0 ≡ false
+  pub next-beat : requested (after freshOf [] beating 6 .board) 0 ≡ true
+  -- It was acknowledged, and is requested again, though OUT0 was high before the advance and is high after it.
+  pub tick-taken : requested (after freshOf [] ticking 5 .board) 0 ≡ false
+  pub tick-again : requested (after freshOf [] ticking 6 .board) 0 ≡ true
+  -- INT low by the mask: 47H, the request stays, and level 2 is lowest still. By a level in service: 47H, and level 2 alone is in service.
+  pub masked-7 : dataIn (stepOf (after freshOf [] masking 7 .board) acknowledging [] .answer) ≡ 71
+  pub still-masked : (requested (after freshOf [] masking 8 .board) 3 ≡ true) × (after freshOf [] masking 8 .board .icu .lowest ≡ 2)
+  pub outranked-7 : dataIn (stepOf (after freshOf [] outranked 6 .board) acknowledging [] .answer) ≡ 71
+  pub still-served : after freshOf [] outranked 7 .board .icu .isr ≡ 4
