@@ -6,6 +6,8 @@ use rival::counts;
 use rival::counts::Tally;
 use rival::modes;
 use rival::modes::Modes;
+use rival::requests;
+use rival::requests::Requests;
 use rival::show;
 use rival::stretch;
 use rival::stretch::Answers;
@@ -46,6 +48,7 @@ struct Round {
 pub struct Counted {
     pub tally: Tally,
     modes: Modes,
+    requests: Requests,
 }
 
 fn fill(memory: &mut Memory, seed: u32) {
@@ -178,7 +181,7 @@ fn start(round: u32, counted: Counted) -> Round {
     Round {
         maker: tapes::start(round % 65536 + 1, length_of(round)),
         run: first::from_reset(round % 65536 + 1, counted.tally),
-        ran: stretch::from_reset(counted.modes),
+        ran: stretch::from_reset(counted.modes, counted.requests),
     }
 }
 
@@ -197,9 +200,11 @@ fn run_round(round: u32, counted: Counted) -> Counted {
     let ran = state.ran;
     let tally = run.tally;
     let modes = ran.modes;
+    let requests = ran.requests;
     Counted {
         tally: tally,
         modes: modes,
+        requests: requests,
     }
 }
 
@@ -207,6 +212,7 @@ fn none_yet() -> Counted {
     Counted {
         tally: counts::zero(),
         modes: modes::zero(),
+        requests: requests::zero(),
     }
 }
 
@@ -225,5 +231,6 @@ pub fn duel(n: u32) -> Counted {
 pub fn print_all(n: u32, counted: Counted) -> bool {
     show::print_with(b"rounds: %\n", n as u64, 0, 0, 0)
         & counts::print_all(counted.tally)
+        & requests::print_all(counted.requests)
         & modes::print_all(counted.modes)
 }

@@ -8,6 +8,7 @@ use rival::counts::Tally;
 use rival::modes;
 use rival::notation;
 use rival::notation::Line;
+use rival::requests;
 use rival::show;
 use rival::stretch;
 use rival::stretch::Answers;
@@ -162,7 +163,7 @@ fn both_agree(tape: &Tape, typed: &Answers, n: usize, number: u32) -> bool {
     let mut first_answers = [stretch::UNWRITTEN; 1088];
     let mut second_answers = [stretch::UNWRITTEN; 1088];
     stretch::run_second(
-        stretch::from_reset(modes::zero()),
+        stretch::from_reset(modes::zero(), requests::zero()),
         tape,
         n,
         &mut second_memory,

@@ -2,6 +2,8 @@
 // memory against memory; nothing else compares.
 use crate::modes;
 use crate::modes::Modes;
+use crate::requests;
+use crate::requests::Requests;
 use second::State;
 
 pub type Tape = [u8; 512];
@@ -128,16 +130,21 @@ pub fn copy_memory(from: &Memory, to: &mut Memory) {
     }
 }
 
-// The second board under way, and what its counters did.
+// The second board under way, and what became of its counters and requests.
 pub struct Ran {
     pub s: State,
     pub modes: Modes,
+    pub requests: Requests,
 }
 
 // The second board from reset, with the counts so far.
-pub fn from_reset(modes: Modes) -> Ran {
+pub fn from_reset(modes: Modes, requests: Requests) -> Ran {
     let s = second::second_reset();
-    Ran { s: s, modes: modes }
+    Ran {
+        s: s,
+        modes: modes,
+        requests: requests,
+    }
 }
 
 // One record: two words.
@@ -157,6 +164,7 @@ fn run_one(
     Ran {
         s: next,
         modes: modes::count_record(ran.modes, s, next, low, high, answer),
+        requests: requests::count_record(ran.requests, s, next, low, answer),
     }
 }
 

@@ -1,5 +1,5 @@
-// The board of document 01, with the timer's six modes, a second time: written from the documents alone and held against the first by running both on
-// the same tapes.
+// The board of document 01, with the timer's six modes and with edge requests that a fall withdraws, a second time: written from the documents alone and
+// held against the first by running both on the same tapes.
 //
 // The whole board is one array of 96 numbers, which functions take and give back by value. What a record may be is read off tables, every refusal
 // is decided before anything changes, and an advance is worked out by division, with no loop over its pulses.
@@ -25,7 +25,7 @@ const LOWEST: usize = 5;
 const IMR: usize = 6;
 
 const ISR: usize = 7;
-// The requests that edges have left.
+// The requests of edge trigger: lines that have risen, are high still and were not acknowledged.
 const EDGES: usize = 8;
 // 0 when IRR is read at A0=0, 1 when ISR is.
 const SHOWN: usize = 9;
@@ -383,15 +383,18 @@ fn int(s: State) -> bool {
     ready(s) & (request_rank(s) < best_rank(get(s, ISR), get(s, LOWEST)))
 }
 
-// Takes in the lines that rose during a record. `also` has bit 0 set where OUT0 rose on the way, whatever it is now.
-fn take_rises(s: State, before: u32, also: u32) -> State {
-    let rose = lines(s) & !before | also;
-    let counted = ready(s) & !has(get(s, IW1), 3);
-    set(
-        s,
-        EDGES,
-        choose(counted, (get(s, EDGES) | rose) % 256, get(s, EDGES)),
-    )
+// Whether the chip looks for edges: it is ready, and not level-triggered.
+fn sees_edges(s: State) -> bool {
+    ready(s) & !has(get(s, IW1), 3)
+}
+
+// Takes in what the lines did during a record: a rise asks, a fall withdraws. `also` has bit 0 set where OUT0 rose on the way. The last change counts: a
+// line that is low now has fallen since it asked, if it ever did.
+fn take_edges(s: State, before: u32, also: u32) -> State {
+    let now = lines(s);
+    let rose = now & !before | also;
+    let asking = (get(s, EDGES) | rose) & now;
+    set(s, EDGES, choose(sees_edges(s), asking, get(s, EDGES)))
 }
 
 fn icu_write_status(s: State, a0: u32, b: u32) -> u32 {
@@ -478,16 +481,67 @@ fn accept(s: State, n: u32) -> State {
     set(taken, ISR, get(s, ISR) | one(n))
 }
 
-fn acknowledge(s: State) -> Effect {
-    let n = level_at(request_rank(s), get(s, LOWEST));
+// What the CPU is handed for level n: its vector, or the bytes of its CALL.
+fn hand_over(s: State, n: u32) -> Effect {
     let iw1 = get(s, IW1);
     let iw2 = get(s, IW2);
     if has(get(s, IW4), 0) {
-        return with_data(accept(s, n), iw2 & 0xF8 | n);
+        return with_data(s, iw2 & 0xF8 | n);
     }
     // The low byte of the CALL address.
     let low = choose(has(iw1, 2), iw1 & 0xE0 | n % 8 * 4, iw1 & 0xC0 | n % 8 * 8);
-    with_words(accept(s, n), 0, word(0xCD, low, iw2, 0), 0)
+    with_words(s, 0, word(0xCD, low, iw2, 0), 0)
+}
+
+// With INT low it is handed level 7's, whatever ranks lowest, and nothing changes.
+fn acknowledge(s: State) -> Effect {
+    if !int(s) {
+        return hand_over(s, 7);
+    }
+    let n = level_at(request_rank(s), get(s, LOWEST));
+    hand_over(accept(s, n), n)
+}
+
+// Why INT is low.
+
+// It is high, or the chip is not ready.
+pub const NO_CAUSE: u32 = 0;
+// IRR is zero.
+pub const NOTHING_ASKS: u32 = 1;
+// All that asks is masked.
+pub const MASKED: u32 = 2;
+// No level that asks and is not masked outranks those in service.
+pub const OUTRANKED: u32 = 3;
+
+fn cause(s: State) -> u32 {
+    if !ready(s) | int(s) {
+        return NO_CAUSE;
+    }
+    if irr(s) == 0 {
+        return NOTHING_ASKS;
+    }
+    choose(irr(s) & !get(s, IMR) == 0, MASKED, OUTRANKED)
+}
+
+// What the duel counts by: the requests as they stand.
+pub struct Asking {
+    // Why INT is low.
+    pub cause: u32,
+    // The requests of edge trigger, and 1 where edges are looked for.
+    pub edges: u32,
+    pub by_edge: u32,
+    pub imr: u32,
+    pub out0: u32,
+}
+
+pub fn who_asks(s: State) -> Asking {
+    Asking {
+        cause: cause(s),
+        edges: get(s, EDGES),
+        by_edge: number(sees_edges(s)),
+        imr: get(s, IMR),
+        out0: timer(s, 0, OUT),
+    }
 }
 
 // The timer.
@@ -1113,7 +1167,7 @@ fn chip_status(s: State, op: u32, x: u32, y: u32) -> u32 {
     match op {
         1 => write_status(s, x, y),
         2 => read_status(s, x),
-        4 => choose(ready(s), number(!int(s)) * 5, 3),
+        4 => number(!ready(s)) * 3,
         _ => 0,
     }
 }
@@ -1223,5 +1277,5 @@ pub fn second_step(s: State, low: u32, high: u32, memory: &mut [u8]) -> Answered
     }
     let d = obey(s, op, x, y, high, memory);
     let next = d.s;
-    sealed(take_rises(next, lines(s), d.rose), d, 0, op)
+    sealed(take_edges(next, lines(s), d.rose), d, 0, op)
 }
