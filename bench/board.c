@@ -3,7 +3,7 @@
  * written, the proved board's structs, its loop over pulses and the start of its `intake` had been read, for the header; the code of the chips had not.) */
 #include "board.h"
 
-enum { DONE, BUSY, NO_SUCH, OUT_OF_TURN, NOT_BUILT, INT_LOW, COUNT_ONE, REFUSED };
+enum { DONE, BUSY, NO_SUCH, OUT_OF_TURN, NOT_BUILT, COUNT_ONE = 6, REFUSED }; /* 5 is never given */
 enum { BEFORE_IW1, WANTS_IW2, WANTS_IW4, READY };
 enum { NO_MODE = 255, NOBODY = 255 };
 
@@ -41,11 +41,12 @@ static inline int int_high(const struct plain_board *b)
     return (asks & -asks) != 0 && (busy == 0 || (asks & -asks) < (busy & -busy));
 }
 
-/* The lines were `was`; rises are taken while ready. */
+/* The lines were `was`. While ready, a line that rose makes its request and one that fell takes it back; the requests of the others stay. */
 static inline void lines_moved(struct plain_board *b, unsigned was)
 {
+    unsigned is = lines_of(b), moved = was ^ is;
     if (b->pic.phase == READY)
-        b->pic.pressed |= (byte)(lines_of(b) & ~was);
+        b->pic.pressed = (byte)((b->pic.pressed & ~moved) | (is & moved));
 }
 
 static int finish_word(struct plain_pic *p, unsigned data)
@@ -113,19 +114,21 @@ static int pic_read(const struct plain_board *b, unsigned a0, byte *data)
     return DONE;
 }
 
+/* With INT low it is answered as level 7, and the chip stays as it is. */
 static int acknowledge(struct plain_board *b, byte *answer)
 {
     struct plain_pic *p = &b->pic;
+    unsigned n = 7;
     if (p->phase != READY)
         return OUT_OF_TURN;
-    if (!int_high(b))
-        return INT_LOW;
-    unsigned n = top_level(requests_of(b) & ~(unsigned)p->mask, p->bottom);
-    p->pressed &= (byte)~(1u << n);
-    if (!p->self_finish)
-        p->service |= (byte)(1u << n);
-    else if (p->rotating)
-        p->bottom = (byte)n;
+    if (int_high(b)) {
+        n = top_level(requests_of(b) & ~(unsigned)p->mask, p->bottom);
+        p->pressed &= (byte)~(1u << n);
+        if (!p->self_finish)
+            p->service |= (byte)(1u << n);
+        else if (p->rotating)
+            p->bottom = (byte)n;
+    }
     if (p->vectored) {
         answer[2] = (byte)((p->iw2 & 0xF8) | n);
     } else {
@@ -317,14 +320,15 @@ static void advance(struct plain_board *b, word pulses, byte *answer)
 {
     word rises[3] = {0, 0, 0};
     while (pulses--) {
-        unsigned was = lines_of(b);
+        byte out0 = b->counter[0].out;
 #pragma clang loop unroll(full) /* so that the fields of each counter have fixed places */
         for (int i = 0; i < 3; i++) {
             byte out = b->counter[i].out;
             pulse(&b->counter[i]);
             rises[i] += (word)(b->counter[i].out & ~out);
         }
-        lines_moved(b, was);
+        if (b->counter[0].out != out0) /* no other line moves in a pulse */
+            lines_moved(b, lines_of(b) ^ 1);
     }
     for (int i = 0; i < 3; i++)
         put32(answer + 4 + 4 * i, rises[i]);

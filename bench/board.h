@@ -13,7 +13,7 @@ struct plain_pic {
     byte by_level, spaced4, wants_iw4;
     byte iw2;
     byte self_finish, vectored, rotating, shows_service;
-    byte pressed; /* edge requests */
+    byte pressed; /* edge requests: of lines that rose while ready, and have not fallen or been acknowledged since */
     byte service, mask, bottom;
     byte lines;   /* INTP1-INTP7 */
 };

@@ -132,6 +132,45 @@ static void put_timer(unsigned pulses)
     }
 }
 
+static unsigned held; /* the lines of put_requests */
+
+/* One record for the interrupt chip, or the words that make it ready: one line after the other turned over, so that many fall with their request
+ * waiting; OUT0 that rises and falls within a few pulses, by a mode word and by a count; masks, finish commands, and acknowledges at any time. */
+static void put_requests(unsigned pulses)
+{
+    unsigned k = below(32), iw1;
+    switch (k) {
+    case 0:
+        iw1 = 0x12 | (below(256) & 0xE5) | (below(4) == 0) << 3;
+        put(1, 0x00, iw1), put(1, 0x01, below(256));
+        if (iw1 & 1)
+            put(1, 0x01, below(4));
+        break;
+    case 1: put(1, 0x01, below(256)); break;
+    case 2: put(1, 0x01, below(2) ? 0 : 1u << below(8)); break;
+    case 3: put(1, 0x00, below(256) & 0xE7); break;
+    case 4: put(1, 0x00, 0x0A | below(2)); break;
+    case 5: put(1, 0x13, 0x10 | below(6) << 1); break;
+    case 6: put(1, 0x10, below(5)); break;
+    case 7: put(3, 1, below(8)); break;
+    case 8:
+    case 9:
+    case 10:
+    case 11: put(2, 0x00, 0); break;
+    case 12:
+    case 13:
+    case 14:
+    case 15: put_advance(below(pulses)); break;
+    case 16:
+    case 17:
+    case 18:
+    case 19:
+    case 20:
+    case 21: put(4, 0, 0); break;
+    default: held ^= 2u << below(7), put(3, 0, held);
+    }
+}
+
 /* ---- comparison ---- */
 
 static void show(const char *who, const byte *at, int n)
@@ -175,6 +214,45 @@ static void note_counters(void)
     }
 }
 
+/* What the acknowledges of a tape came to, and the requests that went away with their line: by the plain board, fed with the tape once more, a record
+ * at a time. A request that an advance both made and withdrew shows in OUT0 alone: it rose, and is low. */
+enum { CAUSES = 4, CHIPS = 8, WAYS = 4 };
+static const char *const causes[CAUSES] = {"INT high", "nothing asked", "masked", "outranked"};
+static const char *const chips[CHIPS] = {"acknowledges", "edge", "level", "self-FI", "self-FI with rotation", "vector", "CALL gap 4", "CALL gap 8"};
+static const char *const ways[WAYS] = {"by lines", "by a write", "by pulses", "made and withdrawn in one advance"};
+static unsigned long answered[CAUSES][CHIPS], withdrawn[WAYS];
+
+static void note_acknowledge(int high)
+{
+    const struct plain_pic *p = &plain.pic;
+    unsigned asks = p->by_level ? p->lines | plain.counter[0].out : p->pressed;
+    int cause = high ? 0 : asks == 0 ? 1 : (asks & ~(unsigned)p->mask) == 0 ? 2 : 3;
+    const int is[CHIPS] = {1, !p->by_level, p->by_level, p->self_finish, p->self_finish && p->rotating, p->vectored,
+                           !p->vectored && p->spaced4, !p->vectored && !p->spaced4};
+    for (int c = 0; c < CHIPS; c++)
+        answered[cause][c] += is[c] != 0;
+}
+
+static void note_requests(length records)
+{
+    byte answer[16], levels = 0, none = 0;
+    length taken;
+    fresh();
+    for (length i = 0; i < records; i++) {
+        const byte *r = tape + 8 * i, *a = answers[1] + 16 * i;
+        unsigned had = plain.pic.pressed, chip = r[0] == 1 && r[1] < 0x10;
+        if (r[0] == 4 && a[0] == 0)
+            note_acknowledge(levels >> 3 & 1);
+        feed_plain(r, 8, &none, 0, answer, 16, &taken);
+        levels = a[3];
+        if (plain.pic.phase != 3 /* ready */ || plain.pic.by_level || chip || r[0] == 0 || r[0] == 4)
+            continue;
+        for (had &= ~(unsigned)plain.pic.pressed; had; had &= had - 1)
+            withdrawn[r[0] == 3 ? 0 : r[0] == 1 ? 1 : 2]++;
+        withdrawn[3] += r[0] == 5 && a[0] == 0 && (a[4] | a[5]) && !(levels & 1);
+    }
+}
+
 static void compare_random(unsigned long seed, unsigned long tapes)
 {
     unsigned long all = 0, seen[7][8] = {{0}};
@@ -183,11 +261,14 @@ static void compare_random(unsigned long seed, unsigned long tapes)
         below(2);
         size = 0;
         length memory_length = below(3) == 0 ? 0 : below(2) ? below(200) : 70000;
-        unsigned wild = below(3) * 4, pulses = below(4) ? 6 : 400, records = 200 + below(3000), timer = below(3) * 40;
+        unsigned wild = below(3) * 4, pulses = below(4) ? 6 : 400, records = 200 + below(3000), timer = below(3) * 40, requests = below(3) * 45;
+        held = 0;
         if (below(2))
             set_up();
         while (size < 8 * records)
-            if (below(100) < timer)
+            if (below(100) < requests)
+                put_requests(pulses);
+            else if (below(100) < timer)
                 put_timer(pulses);
             else
                 put_mixed(wild, pulses);
@@ -211,6 +292,7 @@ static void compare_random(unsigned long seed, unsigned long tapes)
         if (done[0] != done[1])
             printf("bench: the boards took %lu and %lu records\n", done[0], done[1]), exit(1);
         compare("a random tape", done[0], memory_length);
+        note_requests(done[1]);
         all += done[0];
         for (length i = 0; i < done[0]; i++)
             if (answers[0][16 * i + 1] < 7)
@@ -224,6 +306,20 @@ static void compare_random(unsigned long seed, unsigned long tapes)
             printf(" %lu", seen[op][s]);
         printf("\n");
     }
+    printf("  acknowledges taken, by cause:");
+    for (int c = 0; c < CHIPS; c++)
+        printf("%s %s", c ? "," : "", chips[c]);
+    printf("\n");
+    for (int c = 0; c < CAUSES; c++) {
+        printf("  %s:", causes[c]);
+        for (int i = 0; i < CHIPS; i++)
+            printf(" %lu", answered[c][i]);
+        printf("\n");
+    }
+    printf("  edge requests that went with their line:");
+    for (int w = 0; w < WAYS; w++)
+        printf("%s %s %lu", w ? "," : "", ways[w], withdrawn[w]);
+    printf("\n");
     printf("  counters after each lump, by mode:");
     for (int s = 0; s < STATES; s++)
         printf("%s %s", s ? "," : "", states[s]);
