@@ -1,6 +1,6 @@
 /* layout: holds the header's struct against what the library laid out.
  *
- * layout         runs pairs of short tapes, each pair known to change certain fields to certain values. Between the two boards that the
+ * layout         runs pairs of short tapes, each pair known to change certain fields to certain values, or none. Between the two boards that the
  *                library gives back, just the bytes of those fields (as the header places them) may differ, and the fields must have those
  *                values. Every field is changed by some pair. Then the sizes: how far the library writes where it puts a board.
  * layout table   prints the place and size of each field, for comparison with other declarations. */
@@ -79,7 +79,9 @@ static const struct pair {
     {1, "W00=12 W01=47", "W00=0B", "icu.showsisr=1"},
     {1, "W00=12 W01=47", "L0=24", "icu.edges=24 intp=24"},
     {1, "", "L0=24", "intp=24"},
+    {1, "W00=12 W01=47 L0=24", "L0=04", "icu.edges=4 intp=4"},
     {1, "W00=12 W01=47 L0=20", "K", "icu.edges=0 icu.isr=20"},
+    {1, "W00=12 W01=47", "K", ""},
     {1, "W00=12 W01=47", "W01=5A", "icu.imr=5A"},
     {1, "W00=12 W01=47", "W00=C3", "icu.lowest=3"},
     {3, "", "M30", "timer.counters[#].mode=0 timer.counters[#].format=3"},

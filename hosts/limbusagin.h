@@ -46,7 +46,7 @@ struct limbusagin_icu {
     limbusagin_bool vector;    /* IW4: vector mode, not CALL */
     limbusagin_bool rotation;  /* rotation in self-FI */
     limbusagin_bool showsisr;  /* reads at A0=0 show ISR, not IRR */
-    limbusagin_u8 edges;       /* edge requests */
+    limbusagin_u8 edges;       /* edge requests: a rise sets the line's bit, its fall or its acknowledge clears it */
     limbusagin_u8 isr;
     limbusagin_u8 imr;
     limbusagin_u8 lowest;      /* the lowest-ranked level */

@@ -46,7 +46,7 @@ pub struct Icu {
     pub rotation: bool,
     /// reads at A0=0 show ISR, not IRR
     pub showsisr: bool,
-    /// edge requests
+    /// edge requests: a rise sets the line's bit, its fall or its acknowledge clears it
     pub edges: u8,
     pub isr: u8,
     pub imr: u8,

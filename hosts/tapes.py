@@ -64,6 +64,39 @@ def mixed(seed, n, wild):
     return b"".join(out)
 
 
+def requests(seed, n):
+    """Lines that rise and fall, most of them before an acknowledge, and OUT0 that does so in an advance, by a mode word and by a count."""
+    r = random.Random(seed)
+    out = []
+    lines = 0
+    for i in range(n):
+        k = r.randrange(16)
+        if i % 500 == 0:
+            # vector; CALL with either gap; self-FI; level trigger
+            iw1, iw4 = [(0x13, 1), (0x17, 0), (0xF3, 0), (0x13, 3), (0x1B, 1)][i // 500 % 5]
+            out += [record(1, 0x00, iw1), record(1, 0x01, 0x40), record(1, 0x01, iw4), record(1, 0x00, 0x80)]
+        elif k == 0:
+            out.append(record(1, 0x01, r.choice([0, 0, 0, r.randrange(256)])))
+        elif k == 1:
+            out.append(record(1, 0x00, r.choice([0x20, 0x20, 0x60, 0xA0, 0xE0]) | r.randrange(8)))
+        elif k == 2:
+            out.append(record(1, 0x00, r.choice([0x0A, 0x0B])))
+        elif k == 3:
+            out.append(record(2, 0x00))
+        elif k == 4:
+            out.append(record(1, 0x13, 0x10 | r.randrange(6) << 1))
+        elif k == 5:
+            out.append(record(1, 0x10, 2 + r.randrange(3)))
+        elif k in (6, 7):
+            out.append(advance(r.randrange(6)))
+        elif k in (8, 9, 10):
+            out.append(record(4))
+        else:
+            lines ^= 2 << r.randrange(7)
+            out.append(record(3, 0, lines))
+    return b"".join(out)
+
+
 def main(folder):
     os.makedirs(folder, exist_ok=True)
     r = random.Random(71)
@@ -85,6 +118,7 @@ def main(folder):
                 + record(3, 1, 0) + record(3, 1, 7)
                 + b"".join(advance(1) + b"".join(record(2, 0x10 + c) for c in range(3)) for _ in range(20))
                 + advance(65535) + record(4) + record(1, 0x00, 0x20) for mode in range(6)), 0),
+        "requests": (requests(5, 10000), 0),
         "block": (
             record(1, 0x2A, 0x84) + record(1, 0x23, 0x10) + record(1, 0x2F, 0x0E) + record(3, 2, 1)
             + b"".join(record(6, 0, i & 255) for i in range(4100)), 4000),
