@@ -521,6 +521,49 @@ trial_lesson_modes() { # a control word is shown with its mode, 0 to 5 by eight 
     done
 }
 
+trial_lesson_int_low() { # an acknowledge with INT low is answered as level 7, by vector or CALL, and the row says why INT is low; explain has the bytes alone, and says of a 5 that it is never given
+    printf 'write 00 13\nwrite 01 40\nwrite 01 01\n' >vector
+    printf 'write 00 B6\nwrite 01 12\n' >call
+    for mode in 'vector:vector 47' 'call:CALL CD BC 12'; do
+        for cause in 'no level asks:' 'no level asks:intp 20\nintp 00\n' 'every level that asks is masked:write 01 08\nintp 08\n' \
+            'level 5 is in service and not outranked:intp 20\nacknowledge\nintp 60\n'; do
+            # shellcheck disable=SC2059
+            { cat "${mode%%:*}"; printf "${cause#*:}acknowledge\n"; } >x
+            start lesson x
+            status_is 0
+            expect 'the end' "records: $(($(wc -l <x))), refused: 0" "$(grep ^records out)"
+            row_says "${mode#*:}: INT is low, ${cause%%:*}; answered as level 7"
+            awk 'length > 80 { exit 1 }' out || wrong 'columns of a row' '80 at the most' "$(awk 'length > 80' out)"
+        done
+        # line 7 itself: INT is high, and there is nothing more to say
+        { cat "${mode%%:*}"; printf 'intp 80\nacknowledge\n'; } >x
+        start lesson x
+        row_says "${mode#*:}"
+        case $(answer_column) in *'INT is low'*) wrong 'the row with INT high' 'nothing about INT' "$(answer_column)" ;; esac
+    done
+    printf '\0\004\107\0\0\0\0\0\0\0\0\0\0\0\0\0\005\004\0\0\0\0\0\0\0\0\0\0\0\0\0\0' >answers
+    start lesson explain answers
+    status_is 0
+    row_says 'vector 47 5: this board never gives it'
+}
+
+trial_lesson_readme() { # README.md prints what its first lesson prints, and has every lesson, in the order of their numbers
+    ln -s "$lessons" lessons
+    start lesson lessons/finish.lesson
+    status_is 0
+    sed -n '/^## Run a lesson/,/^## The lessons/s/^    //p' "$root/README.md" | sed -n '/^lessons\/finish[.]lesson$/,$p' >shown
+    wrote shown
+    # shellcheck disable=SC2016
+    sed -n 's/^| `\([a-z]*[.]lesson\)` .*/\1/p' "$root/README.md" >listed
+    number=0
+    while IFS= read -r lesson; do
+        number=$((number + 1))
+        grep -q "^# Lesson $number: " "lessons/$lesson" || wrong "$lesson" "the heading of lesson $number" "$(head -n 1 "lessons/$lesson")"
+    done <listed
+    set -- lessons/*.lesson
+    expect 'lessons in README.md' $# "$number"
+}
+
 # A lesson in which channel 0, in the given mode, moves two bytes at the addresses 2 and 3.
 transfer() { # MODE BYTE BYTE
     printf 'write %s\n' '21 00' '22 01' '23 00' '24 02' '25 00' '26 00' "2A $1" '2F 0E'

@@ -35,7 +35,32 @@ pub fn answered(board: Board, r: [u8; 8], a: [u8; 16]) -> Text {
         return refusal(board, r, a[0]);
     }
     let n = answered::done(a[1], a[4], unit(board, a[5]), r[1]);
-    sentences::answered(n, answered::facts(a))
+    let done = sentences::answered(n, answered::facts(a));
+    if a[1] == 4 {
+        return acknowledged(board, done);
+    }
+    done
+}
+
+// With INT low an acknowledge is answered as level 7, and the row says why INT is low.
+fn acknowledged(board: Board, bytes: Text) -> Text {
+    let i = board.icu;
+    let lines = lines_of(board);
+    if i.int(lines) {
+        return bytes;
+    }
+    let why = answered::why_low(i.irr(lines), i.asked(lines), icu::highest(i.isr, i.lowest));
+    bytes.part(why, 0, why.n)
+}
+
+// The interrupt chip's eight lines: INTP1 to INTP7, and OUT0 as line 0.
+fn lines_of(board: Board) -> u8 {
+    let t = board.timer;
+    let c = t.counters[0];
+    if c.out {
+        return bits::with(board.intp, 0);
+    }
+    board.intp
 }
 
 const VERIFIED: u8 = 0x09;
@@ -75,16 +100,7 @@ pub fn written(board: Board, a: [u8; 16]) -> u32 {
 fn refusal(board: Board, r: [u8; 8], status: u8) -> Text {
     let d = board.dma;
     let i = board.icu;
-    let f = sentences::facts(
-        r,
-        status,
-        d.channel,
-        icu::highest(i.isr, i.lowest),
-        has_two_bytes(board, r[1]) as u8,
-    );
-    if status == 5 {
-        return sentences::refused(int_low(board), f);
-    }
+    let f = sentences::facts(r, status, d.channel, has_two_bytes(board, r[1]) as u8, 0);
     sentences::refused(answered::reason(status, f, i.stage), f)
 }
 
@@ -94,22 +110,4 @@ fn has_two_bytes(board: Board, port: u8) -> bool {
     let k = (port % 4 % 3) as usize;
     let c = t.counters[k];
     c.format == Counter::BOTH
-}
-
-// Status 5: whether nothing asks, or what asks is outranked.
-fn int_low(board: Board) -> u8 {
-    let timer = board.timer;
-    let c = timer.counters[0];
-    let i = board.icu;
-    let mut lines = board.intp;
-    if c.out {
-        lines = bits::with(board.intp, 0);
-    }
-    if i.asked(lines) == 0 {
-        if i.irr(lines) == 0 {
-            return 0x50;
-        }
-        return 0x51;
-    }
-    0x52
 }

@@ -1,4 +1,4 @@
-// Which sentence says what an answer is, and of a refusal why.
+// Which sentence says what an answer is, of a refusal why, and of an acknowledge why INT is low.
 use super::notation;
 use super::sentences;
 use super::text::Text;
@@ -44,6 +44,25 @@ pub fn done(op: u8, kind: u8, unit: u8, port: u8) -> u8 {
         },
         _ => 0x00,
     }
+}
+
+// What follows the bytes of an acknowledge with INT low. `asked` is IRR without what is masked, `served` the highest level in service.
+pub fn why_low(irr: u8, asked: u8, served: u8) -> Text {
+    let mut f = [0u8; 16];
+    f[12] = cause_of_low(irr, asked);
+    f[13] = served;
+    sentences::answered(0x0d, f)
+}
+
+// Why INT is low: 0 no level asks, 1 every level that asks is masked, 2 none of the others outranks what is in service.
+fn cause_of_low(irr: u8, asked: u8) -> u8 {
+    if irr == 0 {
+        return 0;
+    }
+    if asked == 0 {
+        return 1;
+    }
+    2
 }
 
 // The answer, and where it is to a DMA cycle, how the unit ended and whether it was past the memory.

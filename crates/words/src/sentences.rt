@@ -81,7 +81,7 @@ pub fn asked(n: u8, facts: [u8; 16]) -> Text {
 }
 
 // What was done, and the operation that an answer is to. The facts are the answer; of a unit C says how it ended (1 with its service, 2 as that and as
-// the last one), D whether it is past the memory.
+// the last one), D whether it is past the memory. 0D follows the bytes of an acknowledge with INT low: C says why it is low, D the highest level in service.
 pub fn answered(n: u8, facts: [u8; 16]) -> Text {
     fill(
         b"
@@ -98,6 +98,7 @@ pub fn answered(n: u8, facts: [u8; 16]) -> Text {
 0A channel %508: $2 to memory @8{D01| (past the memory, lost)}{C02|, bus free|, end, bus free}
 0B channel %508: $2 from memory @8{D01| (past the memory)}{C02|, bus free|, end, bus free}
 0C channel %508: $2 at @8{C02|, bus free|, end, bus free}
+0D : INT is low, {C02no level asks|every level that asks is masked|level %D08 is in service and not outranked}; answered as level 7
 
 10 reset
 11 write
@@ -112,7 +113,7 @@ pub fn answered(n: u8, facts: [u8; 16]) -> Text {
 22 2: there is no such record, port or level
 23 3: out of turn
 24 4: not built
-25 5: acknowledge, and INT is low
+25 5: this board never gives it
 26 6: count 1 in mode 2 or 3
 27 %008: no status that a record can have
 ",
@@ -123,8 +124,8 @@ pub fn answered(n: u8, facts: [u8; 16]) -> Text {
     )
 }
 
-// Why a record was refused. The facts: 0 to 7 are the record, 8 the status, 9 the DMA channel that has the bus, A the level in service, B whether the count
-// that is written has two bytes.
+// Why a record was refused. The facts: 0 to 7 are the record, 8 the status, 9 the DMA channel that has the bus, A whether the count that is written has
+// two bytes.
 pub fn refused(n: u8, facts: [u8; 16]) -> Text {
     fill(
         b"
@@ -167,11 +168,7 @@ pub fn refused(n: u8, facts: [u8; 16]) -> Text {
 4B 4: not built, 16-bit units and D0 of a mode
 4C 4: not built, registers C, D and E of the DMA chip
 
-50 5: INT is low, no level asks
-51 5: INT is low, every level that asks is masked
-52 5: INT is low, level %A08 is in service and not outranked
-
-60 %808: a count of 1 is not for modes 2 and 3; the least is 2{B01|. The low byte is kept: write the high byte next, or the control word again}
+60 %808: a count of 1 is not for modes 2 and 3; the least is 2{A01|. The low byte is kept: write the high byte next, or the control word again}
 ",
         n,
         facts,
