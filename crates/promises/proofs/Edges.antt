@@ -9,7 +9,7 @@ use lib.Dec.{eqb, ltb}
 use lib.ListN.{getD}
 use borrow.Author.Tests.{eqb-true, eqb-false, eq-eqb, ne-eqb, leb-true, ltb-true, ltb-false}
 use Rattle.bits.specs.Choice.{if_then_else_, _and_, _or_}
-use Rattle.bits.specs.Bits.{bitOf, maskedOf}
+use Rattle.bits.specs.Bits.{bitOf}
 use Rattle.tape.specs.declared.Operation.the-variants.{Reset, Write, Read, Intp, Gates, Requests, Acknowledge, Advance, Cycle}
 use Rattle.tape.specs.declared.Decoded.{Decoded}
 use Rattle.tape.specs.Records.{byte, pulseCount, decodeOf}
@@ -32,13 +32,12 @@ use Rattle.board.specs.Wiring.{linesBy, linesAt, lines, int, rewired}
 use Rattle.board.specs.Advance.{advancedOf, run, advanceOf}
 use Rattle.board.specs.Step.{executeOf, blocked, outcomeOf, answeredOf, stepOf}
 use Rattle.board.proofs.Line.{before, never-rose}
-use Rattle.board.proofs.Pulses.{apart, pulses}
+use Rattle.board.proofs.Pulses.{pulses}
 use Rattle.tape.proofs.Decodes.{either, Decodes, malformed, reset, write, read, intp, gates, requests, acknowledge, advance, cycle, decodes}
-use Rattle.promises.specs.Words.{before as rank, Highest, lineHigh, askedFor}
-use Rattle.promises.specs.Modes.{risesIn}
+use Rattle.promises.specs.Words.{Highest, lineHigh, askedFor}
 use Rattle.promises.specs.Withdrawn.{countsRise, rose, restarts, Acknowledges}
 use Rattle.promises.proofs.Logic.{or-false, or-first, and-true, and-false}
-use Rattle.promises.proofs.Statuses.{Port, of-icu, of-timer, of-dma, writable-port, readable-port}
+use Rattle.promises.proofs.Statuses.{Port, of-icu, of-timer, of-dma, writable-port}
 use Rattle.promises.proofs.Counters.{reads-out}
 use Rattle.promises.proofs.Plain.{no-bit}
 use Rattle.promises.proofs.Sizes.{lines-by-small, lines-small}

@@ -10,7 +10,7 @@ use lib.ListN.{getD}
 use lib.Bits.{bitAnd, bitOr, and-le-l, and-shr, and-mod, or-shr, or-mod}
 use borrow.Author.Tests.{eqb-true, ltb-true, lt-ltb, eq-eqb, ne-eqb}
 use Rattle.bits.specs.Choice.{if_then_else_, _and_, _or_, every, some}
-use Rattle.bits.specs.Bits.{bitOf, withOf, withoutOf, maskedOf}
+use Rattle.bits.specs.Bits.{bitOf, maskedOf}
 use Rattle.bits.proofs.Every.{below, alike, same, some-true, every-true}
 use Rattle.tape.specs.Records.{unused, linesAsked, decodeOf}
 use Rattle.icu.specs.declared.Icu.{Icu}
@@ -29,7 +29,7 @@ use Rattle.promises.specs.Words.{requested, lineHigh, askedFor}
 use Rattle.promises.specs.Reached.{Reached}
 use Rattle.promises.specs.Meant.{Outranking}
 use Rattle.promises.proofs.Logic.{both-left, both-right, both, each-true}
-use Rattle.promises.proofs.IcuKept.{with-byte, without-byte, found}
+use Rattle.promises.proofs.IcuKept.{found}
 use Rattle.promises.proofs.BoardKept.{reached-held}
 use Rattle.promises.proofs.Sizes.{lines-small, reached-typed}
 use Rattle.promises.proofs.Highest.{rank-before, cleared, added}

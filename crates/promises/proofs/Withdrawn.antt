@@ -1,14 +1,13 @@
 -- A request is a line that rose and is held.
-use mathlib.Core.Path.{_≡_, refl, sym, ap, _∙_}
+use mathlib.Core.Path.{_≡_, refl, sym, _∙_}
 use mathlib.Core.Logic.{_↔_, _⊎_, inl, inr, ⊎-elim}
 use mathlib.Core.List.{List}
-use mathlib.Core.Bool.{Bool, true, false, not, true≢false, false≢true}
-use Prim.Native.Nat.{ℕ, zero, suc, _≤_, _<_}
+use mathlib.Core.Bool.{Bool, true, false, not, true≢false}
+use Prim.Native.Nat.{ℕ, zero, suc, _<_}
 use native.Mathlib.Nat.{eq-or-lt-of-le, le-of-suc-le-suc}
 use native.Mathlib.Omega.{arith}
-use lib.Dec.{eqb}
 use borrow.Author.Tests.{eqb-true, eq-eqb, not-true}
-use Rattle.bits.specs.Choice.{if_then_else_, _and_, _or_}
+use Rattle.bits.specs.Choice.{_and_, _or_}
 use Rattle.bits.specs.Bits.{bitOf}
 use Rattle.icu.specs.Words as IcuWords
 use Rattle.icu.specs.Words.{ready, lev}
@@ -24,9 +23,9 @@ use Rattle.promises.specs.Withdrawn.{rose, restarts, Acknowledges, found
 use Rattle.promises.proofs.Logic.{or-first, or-second}
 use Rattle.promises.proofs.Plain.{no-bit}
 use Rattle.promises.proofs.BoardKept.{Held, after-held, reached-held}
-use Rattle.promises.proofs.Sizes.{Sized, Keeps, after-sized, record-bytes, call-bytes, reached-keeps}
+use Rattle.promises.proofs.Sizes.{Sized, after-sized, record-bytes, call-bytes, reached-keeps}
 use Rattle.promises.proofs.Requested.{Fit}
-use Rattle.promises.proofs.Edges.{Backed, Follows, Goes, starts, takes-it, goes-on, goes}
+use Rattle.promises.proofs.Edges.{Backed, Goes, starts, takes-it, goes-on, goes}
 
 -- From a board that is held and sized, on which level k is backed: so it is at the end of each record.
 module _ (b : Board) (h : Held b) (z : Sized b) (k : ℕ) (low : k < 8) (first : Backed b k) (m s : List ℕ) (bytes : Bytes s) where
