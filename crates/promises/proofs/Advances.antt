@@ -1,12 +1,14 @@
 -- An advance, counter by counter.
-use mathlib.Core.Path.{_≡_, refl, ap, _∙_}
+use mathlib.Core.Path.{_≡_, refl, sym, ap, _∙_}
 use mathlib.Core.List.{List, [], _∷_}
 use mathlib.Core.Bool.{Bool, true, false}
 use Prim.Native.Nat.{ℕ, zero, suc, _+_, _*_, _/_, _%_, _≤_, _<_}
+use native.Mathlib.Nat.{add-zero, add-suc}
 use native.Mathlib.Omega.{arith}
 use lib.ListN.{getD}
 use borrow.Author.Tests.{le-leb}
 use Rattle.bits.specs.Choice.{if_then_else_, _and_}
+use Rattle.tape.specs.declared.Operation.the-variants.{Advance}
 use Rattle.tape.specs.Records.{unused, pulseCount, decodeOf}
 use Rattle.tape.specs.Answers.{answerOf}
 use Rattle.icu.specs.declared.Icu.{Icu}
@@ -20,9 +22,11 @@ use Rattle.board.specs.declared.Run.{Run}
 use Rattle.board.specs.declared.Stepped.{Stepped}
 use Rattle.board.specs.Operations.{refused}
 use Rattle.board.specs.Advance.{roseOf, tickOf, advancedOf, run, advanceOf}
-use Rattle.board.specs.Step.{executeOf, blocked, outcomeOf, answeredOf, stepOf}
+use Rattle.board.specs.Wiring.{levelsOf}
+use Rattle.board.specs.Step.{executeOf, memoryAfter, blocked, outcomeOf, memoryOf, answeredOf, stepOf, stepMemory}
 use Rattle.promises.specs.Records.{advancing}
 use Rattle.promises.specs.Modes.{risesIn}
+use Rattle.promises.specs.Chopped.{AdvanceInTwo}
 use Rattle.promises.proofs.Plain.{pulse-at}
 
 -- An advance is carried out, whoever has the bus.
@@ -107,3 +111,102 @@ module _ (b : Board) (m : List ℕ) (n k : ℕ) (few : n < 3) (h : k < 65536) wh
       let q = alone (b .intp) (b .timer) (b .icu) n k few .rises in
       let small : getD (run b k .rises) n 0 < 65536 = rw q (omega (arith, few-rises (at (b .timer) n) k)) in
       ap (λ (s : Stepped). risesIn n (s .answer)) (advanced b m k h) ∙ reported b k n few small ∙ q
+
+-- Pulses in two parts: of one counter, and of the board.
+ran-on : (c : Counter) (i j : ℕ)
+    → (ranOf c (i + j) .counter ≡ ranOf (ranOf c i .counter) j .counter)
+    × (ranOf c (i + j) .rises ≡ ranOf c i .rises + ranOf (ranOf c i .counter) j .rises)
+unfolding ranOf
+ran-on c i zero = (rw (add-zero i), rw (add-zero i, add-zero (ranOf c i .rises)))
+ran-on c i (suc j) =
+    let h = ran-on c i j in
+    (rw (add-suc, h .0), rw (add-suc, h .0, h .1) (omega arith))
+
+module _ (intp : ℕ) (t : Timer) (c : Icu) (i : ℕ) where
+  abbrev first : Run
+  first = advancedOf intp t c i
+
+  abbrev onward : ℕ → Run
+  onward j = advancedOf intp (first .timer) (first .icu) j
+
+  timer-on : (j : ℕ) → advancedOf intp t c (i + j) .timer ≡ onward j .timer
+  unfolding advancedOf tickOf
+  timer-on zero = rw add-zero
+  timer-on (suc j) = rw (add-suc, timer-on j)
+
+  icu-on : (j : ℕ) → advancedOf intp t c (i + j) .icu ≡ onward j .icu
+  unfolding advancedOf tickOf
+  icu-on zero = rw add-zero
+  icu-on (suc j) = rw (add-suc, timer-on j, icu-on j)
+
+-- An advance leaves the memory; it is accepted, and answers with the levels after it.
+module _ (b : Board) (m : List ℕ) (k : ℕ) (h : k < 65536) where
+  advance-memory : stepMemory b (advancing k) m ≡ m
+  unfolding stepMemory decodeOf unused pulseCount memoryOf memoryAfter
+  advance-memory =
+      let e : k % 256 + k / 256 % 256 * 256 + k / 65536 % 256 * 65536 + k / 16777216 * 16777216 ≡ k = omega arith in
+      rw (e, le-leb k 65535 (omega arith)) (go (blocked b (Advance k)))
+    where
+      go : (q : Bool) → _≡_ {A = List ℕ} (if q then m else m) m
+      go true = refl
+      go false = refl
+
+  advance-board : stepOf b (advancing k) m .board ≡ advanceOf b k .board
+  unfolding answeredOf
+  advance-board = ap (λ (s : Stepped). s .board) (advanced b m k h)
+
+  advance-status : getD (stepOf b (advancing k) m .answer) 0 0 ≡ 0
+  unfolding answeredOf answerOf advanceOf
+  advance-status = ap (λ (s : Stepped). getD (s .answer) 0 0) (advanced b m k h)
+
+  advance-levels : getD (stepOf b (advancing k) m .answer) 3 0 ≡ levelsOf (stepOf b (advancing k) m .board)
+  unfolding answeredOf answerOf
+  advance-levels = ap (λ (s : Stepped). getD (s .answer) 3 0) (advanced b m k h) ∙ ap levelsOf (sym advance-board)
+
+module _ (b : Board) (m : List ℕ) (i j : ℕ) (h : i + j < 65536) where
+  abbrev m′ : List ℕ
+  m′ = stepMemory b (advancing i) m
+
+  abbrev b′ : Board
+  b′ = stepOf b (advancing i) m .board
+
+  hi : i < 65536
+  hi = omega (arith, h)
+
+  hj : j < 65536
+  hj = omega (arith, h)
+
+  board-on : advanceOf (advanceOf b i .board) j .board ≡ advanceOf b (i + j) .board
+  unfolding advanceOf
+  board-on = rw (timer-on (b .intp) (b .timer) (b .icu) i j, icu-on (b .intp) (b .timer) (b .icu) i j)
+
+  same-board : stepOf b′ (advancing j) m′ .board ≡ stepOf b (advancing (i + j)) m .board
+  same-board =
+      advance-board b′ m′ j hj
+      ∙ ap (λ (d : Board). advanceOf d j .board) (advance-board b m i hi)
+      ∙ board-on
+      ∙ sym (advance-board b m (i + j) h)
+
+  pub advance-in-two : AdvanceInTwo b m i j
+  advance-in-two =
+      record {
+        accepted = (advance-status b m i hi, advance-status b′ m′ j hj, advance-status b m (i + j) h);
+        board = same-board;
+        memory = advance-memory b′ m′ j hj ∙ advance-memory b m i hi ∙ sym (advance-memory b m (i + j) h);
+        levels = advance-levels b′ m′ j hj ∙ ap levelsOf same-board ∙ sym (advance-levels b m (i + j) h);
+        rises = λ n few.
+            let c = at (b .timer) n in
+            ap (λ (x : ℕ). x + risesIn n (stepOf b′ (advancing j) m′ .answer)) (rises-alone b m n i few hi)
+            ∙ ap (λ (x : ℕ). ranOf c i .rises + x) (rises-alone b′ m′ n j few hj)
+            ∙ ap (λ (d : Counter). ranOf c i .rises + ranOf d j .rises) (counter-alone b m n i few hi)
+            ∙ sym (ran-on c i j .1)
+            ∙ sym (rises-alone b m n (i + j) few h);
+      }
+
+-- No pulse.
+pub no-pulse : (b : Board) (m : List ℕ)
+    → (stepOf b (advancing 0) m .board ≡ b)
+    × (stepMemory b (advancing 0) m ≡ m)
+    × ((n : ℕ) → n < 3 → risesIn n (stepOf b (advancing 0) m .answer) ≡ 0)
+unfolding advanceOf advancedOf ranOf
+no-pulse b m = (advance-board b m 0 (omega arith), advance-memory b m 0 (omega arith), λ n few. rises-alone b m n 0 few (omega arith))

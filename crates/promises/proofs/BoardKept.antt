@@ -111,20 +111,27 @@ unfolding after
 after-held b m s zero h = h
 after-held b m s (suc n) h = step-held (after b m s n .board) (after-held b m s n h) (recordAt s n) (after b m s n .memory)
 
-pub reached-held : {b : Board} → Reached b → Held b
-unfolding freshOf fedOf
-reached-held unfed = record { intp = refl; icu = the-icu.reset-fine; timer = the-timer.resets-fine }
-reached-held (fed {b = b} t m room _ _ g) =
+pub fed-held : (b : Board) (t m : List ℕ) (room : ℕ) → Held b → Held (fedOf b t m room .board)
+unfolding fedOf
+fed-held b t m room h =
     either (λ (f : Fed). Held (f .board)) (taken b t room)
-    (λ _. let k = after-held b m (bytesOf b t) (countOf b t) (reached-held g) in record { intp = k .intp; icu = k .icu; timer = k .timer })
-    (λ _. reached-held g)
+    (λ _. let k = after-held b m (bytesOf b t) (countOf b t) h in record { intp = k .intp; icu = k .icu; timer = k .timer })
+    (λ _. h)
+
+pub reached-held : {b : Board} → Reached b → Held b
+unfolding freshOf
+reached-held unfed = record { intp = refl; icu = the-icu.reset-fine; timer = the-timer.resets-fine }
+reached-held (fed {b = b} t m room _ _ g) = fed-held b t m room (reached-held g)
 
 -- At most seven bytes are kept.
+pub fed-kept : (b : Board) (t m : List ℕ) (room : ℕ) → b .kept .length < 8 → fedOf b t m room .board .kept .length < 8
+unfolding fedOf
+fed-kept b t m room h = either (λ (f : Fed). f .board .kept .length < 8) (taken b t room) (λ _. omega arith) (λ _. h)
+
 pub reached-kept : {b : Board} → Reached b → b .kept .length < 8
-unfolding freshOf fedOf
+unfolding freshOf
 reached-kept unfed = omega arith
-reached-kept (fed {b = b} t m room _ _ g) =
-    either (λ (f : Fed). f .board .kept .length < 8) (taken b t room) (λ _. omega arith) (λ _. reached-kept g)
+reached-kept (fed {b = b} t m room _ _ g) = fed-kept b t m room (reached-kept g)
 
 -- The DMA chip's ranges as they are tested.
 channel-good : (c : Channel) → Good c → channelGood c ≡ true

@@ -5,8 +5,8 @@ use mathlib.Core.Bool.{Bool, true, false, true≢false, false≢true}
 use Prim.Native.Nat.{ℕ, zero, suc, _+_, _-_, _/_, _<_, _%_}
 use native.Mathlib.Nat.{add-zero}
 use native.Mathlib.Omega.{arith}
-use lib.Dec.{eqb}
-use borrow.Author.Tests.{eqb-false, lt-ltb}
+use lib.Dec.{eqb, ltb}
+use borrow.Author.Tests.{eqb-false, lt-ltb, ltb-true}
 use Rattle.bits.specs.Choice.{if_then_else_, _and_, _or_, some}
 use Rattle.bits.specs.Bits.{bitOf, withOf, withoutOf}
 use Rattle.icu.specs.declared.Icu.{Icu}
@@ -228,3 +228,14 @@ reset-fine = record { stage = omega arith; lowest = omega arith; isr = omega ari
 pub fine-good : (c : Icu) → Fine c → icuGood c ≡ true
 unfolding icuGood
 fine-good c f = rw (lt-ltb (c .stage) 4 (f .stage), lt-ltb (c .lowest) 8 (f .lowest), f .iw1)
+
+pub good-fine : (c : Icu) → c .isr < 256 → icuGood c ≡ true → Fine c
+unfolding icuGood
+good-fine c h g =
+    let k = both-right (ltb (c .stage) 4) _ g in
+    record {
+      stage = ltb-true _ _ (both-left (ltb (c .stage) 4) _ g);
+      lowest = ltb-true _ _ (both-left (ltb (c .lowest) 8) _ k);
+      isr = h;
+      iw1 = both-right (ltb (c .lowest) 8) _ k;
+    }

@@ -14,7 +14,6 @@ pub mod IcuKept
 pub mod TimerKept
 pub mod BoardKept
 pub mod Sizes
-pub mod Reached
 pub mod Ruled
 pub mod Statuses
 pub mod Readings
@@ -22,6 +21,12 @@ pub mod Refusals
 pub mod Rows
 pub mod Calls
 pub mod Demand1
+pub mod Aside
+pub mod Parts
+pub mod Fit
+pub mod Lumps
+pub mod EmptyCall
+pub mod Reached
 pub mod Highest
 pub mod Counters
 pub mod TimerSteps
@@ -35,6 +40,8 @@ pub mod Requested
 pub mod Taken
 pub mod Taught
 pub mod Modes
+pub mod AdvanceTapes
+pub mod Chopped
 pub mod Waves
 pub mod Edges
 pub mod Withdrawn

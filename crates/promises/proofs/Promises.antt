@@ -3,6 +3,7 @@ use Rattle.promises.specs.Promises.{Promises}
 use Rattle.promises.proofs.Demand1.{demand-1}
 use Rattle.promises.proofs.Demand3.{demand-3}
 use Rattle.promises.proofs.Reached.{reached}
+use Rattle.promises.proofs.Chopped.{chopped}
 use Rattle.promises.proofs.Taught.{taught}
 use Rattle.promises.proofs.Modes.{modes}
 use Rattle.promises.proofs.Waves.{waves}
@@ -17,6 +18,7 @@ promises =
       demand-1 = demand-1;
       demand-3 = demand-3;
       reached = reached;
+      chopped = chopped;
       taught = taught;
       modes = modes;
       waves = waves;

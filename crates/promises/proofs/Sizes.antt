@@ -52,7 +52,8 @@ use Rattle.timer.proofs.Pulses.{Counts, stays, one-less, two-less, loads, loads
 use Rattle.promises.proofs.Ruled.{tooSmall}
 use Rattle.promises.proofs.IcuKept.{with-byte, without-byte}
 use Rattle.promises.proofs.Change.{moved-mode}
-use Rattle.promises.proofs.BoardKept.{reached-held}
+use Rattle.promises.proofs.Sound.{Sound}
+use Rattle.promises.proofs.BoardKept.{Held, reached-held}
 use Rattle.promises.proofs.Runs.{reached-sound}
 
 -- The interrupt chip.
@@ -432,7 +433,7 @@ small-bytes [] h i = omega arith
 small-bytes (x ∷ l) h zero = ltb-true x 256 (both-left (ltb x 256) (areBytes l) h)
 small-bytes (x ∷ l) h (suc i) = small-bytes l (both-right (ltb x 256) (areBytes l) h) i
 
-take-bytes : (n : ℕ) (l : List ℕ) → Bytes l → Bytes (take n l)
+pub take-bytes : (n : ℕ) (l : List ℕ) → Bytes l → Bytes (take n l)
 take-bytes zero l h i = omega arith
 take-bytes (suc n) [] h i = omega arith
 take-bytes (suc n) (x ∷ l) h zero = h 0
@@ -479,16 +480,9 @@ rest-bytes s n h (suc (suc (suc (suc (suc zero))))) = h (8 * n + 5)
 rest-bytes s n h (suc (suc (suc (suc (suc (suc zero)))))) = h (8 * n + 6)
 rest-bytes s n h (suc (suc (suc (suc (suc (suc (suc i))))))) = omega arith
 
-pub reached-keeps : {b : Board} → Reached b → Keeps b
-unfolding freshOf fedOf restAt
-reached-keeps unfed =
-    record {
-      seven = refl;
-      bytes = rest-bytes [] 0 (λ i. omega arith);
-      sized = record { icu = icu-reset; intp = omega arith; timer = resets-small; dma = reset-small };
-    }
-reached-keeps (fed {b = b} t m room h _ g) =
-    let k = reached-keeps g in
+pub fed-keeps : (b : Board) (t m : List ℕ) (room : ℕ) → Bytes t → Keeps b → Keeps (fedOf b t m room .board)
+unfolding fedOf restAt
+fed-keeps b t m room h k =
     let s = call-bytes b t k h in
     either (λ (f : Fed). Keeps (f .board)) (taken b t room)
     (λ _. let z = after-sized b m (bytesOf b t) (countOf b t) s (k .sized) in
@@ -499,16 +493,25 @@ reached-keeps (fed {b = b} t m room h _ g) =
     })
     (λ _. k)
 
-pub reached-typed : {b : Board} → Reached b → Typed b
-reached-typed r =
-    let k = reached-keeps r in
-    let s = reached-sound r in
+pub reached-keeps : {b : Board} → Reached b → Keeps b
+unfolding freshOf restAt
+reached-keeps unfed =
+    record {
+      seven = refl;
+      bytes = rest-bytes [] 0 (λ i. omega arith);
+      sized = record { icu = icu-reset; intp = omega arith; timer = resets-small; dma = reset-small };
+    }
+reached-keeps (fed {b = b} t m room h _ g) = fed-keeps b t m room h (reached-keeps g)
+
+-- A board that is as wide as its types, by the statement and by what is kept of it.
+pub typed-of : {b : Board} → Keeps b → Sound (b .dma) → Held b → Typed b
+typed-of k s h =
     let i = k .sized .icu in
     record {
       iw1 = i .0;
       iw2 = i .1;
       edges = i .3;
-      isr = reached-held r .icu .isr;
+      isr = h .icu .isr;
       imr = i .2;
       intp = k .sized .intp;
       three = k .sized .timer .long;
@@ -523,3 +526,19 @@ reached-typed r =
       seven = k .seven;
       kept = k .bytes;
     }
+
+pub keeps-of : {b : Board} → Typed b → Keeps b
+keeps-of t =
+    record {
+      seven = t .seven;
+      bytes = t .kept;
+      sized = record {
+        icu = (t .iw1, t .iw2, t .imr, t .edges);
+        intp = t .intp;
+        timer = record { long = t .three; all = λ n. (t .value n, t .count n, t .latch n, t .low n) };
+        dma = t .mode;
+      };
+    }
+
+pub reached-typed : {b : Board} → Reached b → Typed b
+reached-typed r = typed-of (reached-keeps r) (reached-sound r) (reached-held r)

@@ -1,9 +1,10 @@
 -- The timer stays in its ranges.
-use mathlib.Core.Path.{_≡_, refl, ap}
+use mathlib.Core.Path.{_≡_, refl, sym, ap, subst}
 use mathlib.Core.Bool.{Bool, true}
 use Prim.Native.Nat.{ℕ, zero, suc, _+_, _*_, _%_}
 use native.Mathlib.Omega.{arith}
 use lib.Dec.{eqb, ltb}
+use lib.ListN.{length, List·getD-eq-default}
 use borrow.Author.Tests.{lt-ltb, ltb-true}
 use Rattle.bits.specs.Choice.{_or_}
 use Rattle.bits.specs.Bits.{bitOf}
@@ -19,6 +20,7 @@ use Rattle.timer.proofs.Pulses.{pulsed, gated, counted, begins}
 use Rattle.intake.specs.Ranges.{counterGood, timerGood}
 use Rattle.tape.proofs.Decodes.{either}
 use Rattle.promises.proofs.Ruled.{tooSmall}
+use Rattle.promises.proofs.Logic.{both-left, both-right}
 use Rattle.promises.proofs.Lists.{put}
 
 -- One counter.
@@ -134,3 +136,10 @@ resets-fine = three-fine resetOf resetOf resetOf refl refl refl
 pub fine-good : (t : Timer) → Fine t → timerGood t ≡ true
 unfolding timerGood
 fine-good t f = rw (f 0, f 1, f 2)
+
+pub good-fine : (t : Timer) → length (t .counters) ≡ 3 → timerGood t ≡ true → Fine t
+unfolding timerGood
+good-fine t l g zero = both-left (counterGood (at t 0)) _ g
+good-fine t l g (suc zero) = both-left (counterGood (at t 1)) _ (both-right (counterGood (at t 0)) _ g)
+good-fine t l g (suc (suc zero)) = both-right (counterGood (at t 1)) _ (both-right (counterGood (at t 0)) _ g)
+good-fine t l g (suc (suc (suc n))) = subst Good (sym (List·getD-eq-default (t .counters) blank (rw l (omega arith)))) blank-good

@@ -1,24 +1,28 @@
 -- The worked boards, by computing; and what is taught, said of them.
 use mathlib.Core.Path.{_≡_, refl, ap}
-use mathlib.Core.List.{[], _∷_, _++_}
+use mathlib.Core.List.{List, [], _∷_, _++_}
 use mathlib.Core.Bool.{true, false}
 use Prim.Native.Nat.{ℕ, zero, suc, _<_}
 use native.Mathlib.Omega.{arith}
 use lib.Dec.{eqb}
+use lib.ListN.{replicate}
 use Rattle.bits.specs.Choice.{every}
 use Rattle.bits.proofs.Every.{alike}
 use Rattle.timer.specs.Timer.{at}
+use Rattle.board.specs.declared.Board.{Board}
 use Rattle.board.specs.Wiring.{freshOf}
 use Rattle.board.specs.Records.{recordAt, after}
 use Rattle.promises.specs.Records.{pulsing, cycling, joined}
 use Rattle.promises.specs.Table.{formed, uses, among}
-use Rattle.promises.specs.Words.{answerAt, answersIn, unitsOf, dataIn, Calm, asks}
+use Rattle.promises.specs.Words.{answerAt, answersIn, unitsOf, dataIn, Calm, CalmFrom, Further, none as none-more, call, asks}
 use Rattle.promises.specs.Reached.{Reached, unfed, fed}
 use Rattle.promises.specs.TaughtWords.{low-byte, reloadsNext, Clocks, a-pulse, the-gates, Unread, readAt, plainCycle, Alone}
 use Rattle.promises.specs.Waves.{Loaded}
-use Rattle.promises.specs.Worked.{setup, further, memory, board, timing, dividing, pulses, armed, started, retriggering, starting, halved, between, latched, busy, requesting, waiting, serving, cycles, bouncing, beating, ticking, masking, outranked, Worked}
+use Rattle.promises.specs.Chopped.{Lump, called, lumpByLump, joinedTape, Room, Each, none as no-call, call as call-with}
+use Rattle.promises.specs.Worked.{chopped as chopped-tape, firstLump, emptyLump, lastLumps, oneLump, sevenAndFive, rising, setup, further, memory, board, timing, dividing, pulses, armed, started, retriggering, starting, halved, between, latched, busy, requesting, waiting, serving, cycles, bouncing, beating, ticking, masking, outranked, Worked}
 use Rattle.promises.proofs.Opened.{rules}
-use Rattle.promises.proofs.Sizes.{areBytes, small-bytes}
+use Rattle.promises.proofs.Sizes.{areBytes, small-bytes, reached-typed}
+use Rattle.promises.proofs.Chopped.{chopped}
 use Rattle.promises.proofs.Taught.{taught}
 use Rattle.promises.proofs.Modes.{modes}
 use Rattle.promises.proofs.Withdrawn.{withdrawn}
@@ -32,6 +36,32 @@ calm (suc (suc zero)) h = refl
 calm (suc (suc (suc zero))) h = refl
 calm (suc (suc (suc (suc zero)))) h = refl
 calm (suc (suc (suc (suc (suc i))))) h = absurd (omega arith)
+
+calm-inside : CalmFrom 5 freshOf memory (setup ++ further) 10
+unfolding rules setup further memory answerAt answersIn unitsOf joined
+calm-inside (suc (suc (suc (suc (suc zero))))) h l = refl
+calm-inside (suc (suc (suc (suc (suc (suc zero)))))) h l = refl
+calm-inside (suc (suc (suc (suc (suc (suc (suc zero))))))) h l = refl
+calm-inside (suc (suc (suc (suc (suc (suc (suc (suc zero)))))))) h l = refl
+calm-inside (suc (suc (suc (suc (suc (suc (suc (suc (suc zero))))))))) h l = refl
+calm-inside (suc (suc (suc (suc (suc (suc (suc (suc (suc (suc i)))))))))) h l = absurd (omega (arith, l))
+calm-inside zero h l = absurd (omega (arith, h))
+calm-inside (suc zero) h l = absurd (omega (arith, h))
+calm-inside (suc (suc zero)) h l = absurd (omega (arith, h))
+calm-inside (suc (suc (suc zero))) h l = absurd (omega (arith, h))
+calm-inside (suc (suc (suc (suc zero)))) h l = absurd (omega (arith, h))
+
+after-refused : Further board memory (answersIn (after board memory further 5 .answers) 5) (after board memory further 5 .memory)
+unfolding rules setup further memory board answerAt answersIn unitsOf joined
+after-refused = call {b = board} {m = memory} further (replicate 80 0) calm none-more
+
+with-room : (b : Board) (m : List ℕ) (l : Lump) (more : List Lump) → Room b m l → Each Room (called b m l .board) (called b m l .memory) more → Each Room b m (l ∷ more)
+with-room b m l more r e = call-with r e
+
+roomy : Each Room freshOf memory (firstLump ∷ emptyLump ∷ lastLumps)
+unfolding rules setup further memory chopped-tape firstLump emptyLump lastLumps joined
+roomy =
+    with-room freshOf memory firstLump _ (omega arith) (with-room _ _ emptyLump _ (omega arith) (with-room _ _ _ _ (omega arith) (with-room _ _ _ _ (omega arith) no-call)))
 
 each : (i : ℕ) → i < 2 → Clocks (recordAt pulses i)
 unfolding rules pulses joined
@@ -101,13 +131,26 @@ reached-serving =
     fed (joined (requesting 4 ++ cycling 7 ∷ [])) [] 80 (small-bytes (joined (requesting 4 ++ cycling 7 ∷ [])) refl) (small-bytes [] refl) unfed
 
 pub worked : Worked
-unfolding rules setup further memory board timing dividing pulses armed started retriggering halved between latched busy requesting waiting serving cycles bouncing beating ticking masking outranked answerAt answersIn unitsOf joined areBytes among
+unfolding rules chopped-tape firstLump emptyLump lastLumps oneLump sevenAndFive rising lumpByLump joinedTape setup further memory board timing dividing pulses armed started retriggering halved between latched busy requesting waiting serving cycles bouncing beating ticking masking outranked answerAt answersIn unitsOf joined areBytes among
 worked =
     record {
       reached = fed setup memory 80 (small-bytes setup refl) (small-bytes memory refl) unfed;
       calm = calm;
       units = refl;
       bytes = refl;
+      calm-inside = calm-inside;
+      units-inside = refl;
+      refused-call = refl;
+      after-refused = after-refused;
+      roomy = roomy;
+      over-an-empty-lump = refl;
+      in-lumps = chopped .in-lumps freshOf refl (reached-typed unfed) memory firstLump (emptyLump ∷ lastLumps) oneLump refl roomy (omega arith) .2;
+      lumps-memory = refl;
+      lumps-kept = refl;
+      cleared = refl;
+      rises-of-one = refl;
+      rises-at-the-cut = refl;
+      rises-after-it = refl;
       loaded = taught .mode-count-pulse freshOf [] 1 116 5 2 (omega arith) refl refl refl refl refl .1;
       rewritten = taught .count-pulse timing [] 2 4 4 (omega arith) refl refl refl (low-byte refl) refl;
       evenly = taught .mode-count-pulse freshOf [] 0 22 5 0 (omega arith) refl refl refl refl refl .1;

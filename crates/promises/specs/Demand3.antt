@@ -2,18 +2,19 @@
 -- accepted write to the DMA chip.
 --
 -- Words.antt has the words: answersIn, unitsOf, lastAt (what answers report, by their bytes), placeOf, mayWrite (places and ranges),
--- Calm (no reset, no accepted write to the chip) and Further; Reached.antt has Reached.
+-- Calm (no reset, no accepted write to the chip), CalmFrom and Further; Reached.antt has Reached.
 use mathlib.Core.Path.{_≡_}
-use mathlib.Core.List.{List}
+use mathlib.Core.List.{List, _++_}
 use mathlib.Core.Bool.{true, false}
 use Prim.Native.Nat.{ℕ, _+_, _≤_, _<_}
-use lib.ListN.{getD, length}
+use lib.ListN.{getD, drop, length}
 use Rattle.dma.specs.declared.Dma.{Dma}
 use Rattle.dma.specs.Fields.{chan}
 use Rattle.board.specs.declared.Board.{Board}
 use Rattle.board.specs.Records.{after}
 use Rattle.intake.specs.Ranges.{inRange}
-use Rattle.promises.specs.Words.{answersIn, unitsOf, lastAt, placeOf, writes, auto, down, mayWrite, Calm, Further}
+use Rattle.intake.specs.Feed.{bytesOf, fedOf, fedMemory, fedAnswers}
+use Rattle.promises.specs.Words.{answersIn, unitsOf, lastAt, placeOf, writes, auto, down, mayWrite, Calm, CalmFrom, Further}
 use Rattle.promises.specs.Reached.{Reached, Typed}
 
 -- What is promised of a run: from the DMA chip d and the memory m, with some answers, to the memory m′.
@@ -48,8 +49,20 @@ pub record Demand3 : Type 0 where
   -- It holds of a board that no tape reaches, too, if only each field is in its range and no wider than its type.
   pub in-range : (b : Board) → inRange b ≡ true → Typed b → (m s : List ℕ) (n : ℕ) → Calm b m s n
       → Bounded (b .dma) m (answersIn (after b m s n .answers) n) (after b m s n .memory)
-  -- And so for any number of calls, in which the tape may be cut anywhere: the lent memory after the last of them, and the answers in
-  -- their buffers, one buffer after another. The bytes that a call executes are those kept from the call before, and then its tape.
+  -- And so for any number of calls, in which the tape may be cut anywhere, and some of which may be refused: the lent memory after the last of
+  -- them, and the answers in their buffers, one buffer after another. The bytes that a call executes are those kept from the call before, and then its tape.
+  -- Not so: a board that runs the records that fit and then refuses the call; one that moves a unit in a refused call.
   pub of-calls : {b : Board} → Reached b → {m : List ℕ} {answers : List (List ℕ)} {m′ : List ℕ}
       → Further b m answers m′
       → Bounded (b .dma) m answers m′
+  -- And so from the end of any record inside a call: of its records the first i are done, none from i on disturbs the chip, and
+  -- further calls may follow. What counts is the chip and the memory as those i records leave them, and the answers after theirs.
+  -- Not so: a board that forgets, with a new call, how far a channel had come; one that moves units between two calls.
+  pub from-inside : {b : Board} → Reached b → (tape m buffer : List ℕ) (i : ℕ)
+      → i ≤ fedOf b tape m (length buffer) .records
+      → CalmFrom i b m (bytesOf b tape) (fedOf b tape m (length buffer) .records)
+      → {more : List (List ℕ)} {m′ : List ℕ}
+      → Further (fedOf b tape m (length buffer) .board) (fedMemory b tape m (length buffer)) more m′
+      → Bounded (after b m (bytesOf b tape) i .board .dma) (after b m (bytesOf b tape) i .memory)
+      (drop i (answersIn (fedAnswers b tape m buffer) (fedOf b tape m (length buffer) .records)) ++ more)
+      m′

@@ -7,6 +7,7 @@ pub mod Demand3
 pub mod TaughtWords
 pub mod Taught
 pub mod Modes
+pub mod Chopped
 pub mod Waves
 pub mod Withdrawn
 pub mod Meant

@@ -3,6 +3,7 @@
 use Rattle.promises.specs.Demand1.{Demand1}
 use Rattle.promises.specs.Demand3.{Demand3}
 use Rattle.promises.specs.Reached.{ReachedBoards}
+use Rattle.promises.specs.Chopped.{Chopped}
 use Rattle.promises.specs.Taught.{Taught}
 use Rattle.promises.specs.Modes.{Modes}
 use Rattle.promises.specs.Waves.{Waves}
@@ -15,6 +16,7 @@ pub record Promises : Type 0 where
   pub demand-1 : Demand1
   pub demand-3 : Demand3
   pub reached : ReachedBoards
+  pub chopped : Chopped
   pub taught : Taught
   pub modes : Modes
   pub waves : Waves

@@ -1,22 +1,25 @@
--- Every board reached from reset has every field in its range.
+-- The boards reached from reset: each field in its range, zeros past the kept bytes, and the end of any record inside a call.
 use mathlib.Core.Path.{_≡_}
 use mathlib.Core.Bool.{true}
 use mathlib.Core.List.{List}
-use Prim.Native.Nat.{ℕ, _<_}
-use lib.ListN.{getD, length}
+use Prim.Native.Nat.{ℕ, _-_, _*_, _≤_, _<_}
+use lib.ListN.{getD, take, length}
 use Rattle.timer.specs.Timer.{at}
 use Rattle.dma.specs.Fields.{chan}
 use Rattle.board.specs.declared.Board.{Board}
-use Rattle.board.specs.Wiring.{freshOf}
+use Rattle.board.specs.Wiring.{nothingKept, freshOf}
+use Rattle.board.specs.Step.{stepOf, stepMemory}
+use Rattle.board.specs.Records.{after}
 use Rattle.intake.specs.Ranges.{inRange}
-use Rattle.intake.specs.Feed.{fedOf}
+use Rattle.intake.specs.Feed.{bytesOf, countOf, fedOf}
 
 -- Every number of a list is a byte.
 abbrev pub Bytes : List ℕ → Type 0
 Bytes l = (i : ℕ) → getD l i 0 < 256
 
 -- A board is reached if some calls lead to it from a board that was never fed, each with some tape and memory of bytes, and some
--- buffer. A call ends at the end of a record, and may keep the bytes of a cut one.
+-- buffer. A call ends at the end of a record, and may keep the bytes of a cut one. (The end of any record inside a call is reached, too: see
+-- inside-a-call.)
 pub data Reached : Board → Type 0 where
   unfed : Reached freshOf
   fed : {b : Board} (tape memory : List ℕ) (room : ℕ) → Bytes tape → Bytes memory → Reached b → Reached (fedOf b tape memory room .board)
@@ -42,6 +45,10 @@ pub record Typed (b : Board) : Type 0 where
   pub seven : length (b .kept .bytes) ≡ 7
   pub kept : Bytes (b .kept .bytes)
 
+-- A board with no byte of a cut record kept.
+abbrev pub uncut : Board → Board
+uncut b = record { icu = b .icu; intp = b .intp; timer = b .timer; dma = b .dma; kept = nothingKept }
+
 pub record ReachedBoards : Type 0 where
   -- Whatever tapes, memories and buffers the calls are given, the next call finds each field in its range, and is never refused for one.
   -- Not so: a board that makes level 8 lowest after a finish command with nothing in service; one that stores an unbuilt DMA mode
@@ -50,3 +57,29 @@ pub record ReachedBoards : Type 0 where
   -- No number is wider than its type, either.
   -- Not so: a board that loses a channel when it writes it back; one whose count goes past FFFFH.
   pub typed : {b : Board} → Reached b → Typed b
+  -- Past the bytes of a cut record there are zeros.
+  -- Not so: a board that keeps the last seven bytes of the tape, and says how many of them count.
+  pub zeros-after : {b : Board} → Reached b → (i : ℕ) → b .kept .length ≤ i → getD (b .kept .bytes) i 0 ≡ 0
+  -- A call with a tape of bytes, taken or refused, on any board in its ranges and typed, also on one that no tape reaches, leaves such a board.
+  -- Not so: a board that takes a call and leaves a field at which the next call is refused; one that keeps eight bytes.
+  pub goes-on : (b : Board) → inRange b ≡ true → Typed b → (tape memory : List ℕ) (room : ℕ) → Bytes tape
+      → (inRange (fedOf b tape memory room .board) ≡ true) × Typed (fedOf b tape memory room .board)
+  -- The end of a record inside a call, once the first i of its records are done: a call whose tape ends there leaves that board. (`after` still shows the bytes that b kept; the first record has used them
+  -- up, and `uncut` takes them away.)
+  -- Not so: a board that gives the bus back whenever a call ends; one that forgets half a count there.
+  pub ends-there : (b : Board) → inRange b ≡ true → Typed b → (tape memory : List ℕ) (i room : ℕ)
+      → i ≤ countOf b tape
+      → b .kept .length ≤ 8 * i
+      → 16 * i ≤ room
+      → fedOf b (take (8 * i - b .kept .length) tape) memory room .board ≡ uncut (after b memory (bytesOf b tape) i .board)
+  -- So the end of any record is reached, inside a call too (and with i = 0 that of the last record before the call).
+  pub inside-a-call : {b : Board} → Reached b → (tape memory : List ℕ) → Bytes tape → Bytes memory → (i : ℕ)
+      → i ≤ countOf b tape
+      → Reached (uncut (after b memory (bytesOf b tape) i .board))
+  -- And the kept bytes have no part in a record: on that board it does what it does inside the call. So whatever is said of each reached board is said
+  -- of the end of any record.
+  -- Not so: a board that answers otherwise while bytes are kept.
+  pub kept-apart : (b : Board) (r m : List ℕ)
+      → (stepOf (uncut b) r m .board ≡ uncut (stepOf b r m .board))
+      × (stepOf (uncut b) r m .answer ≡ stepOf b r m .answer)
+      × (stepMemory (uncut b) r m ≡ stepMemory b r m)

@@ -4,7 +4,7 @@ use mathlib.Core.Path.{_≡_}
 use mathlib.Core.List.{List, [], _∷_, _++_}
 use mathlib.Core.Bool.{Bool, true, false, not}
 use mathlib.Core.Logic.{_≢_}
-use Prim.Native.Nat.{ℕ, zero, suc, _+_, _*_, _-_, _/_, _%_, _<_}
+use Prim.Native.Nat.{ℕ, zero, suc, _+_, _*_, _-_, _/_, _%_, _≤_, _<_}
 use lib.Dec.{eqb, ltb, leb}
 use lib.ListN.{getD, take, drop, length}
 use Rattle.bits.specs.Choice.{if_then_else_, _and_, _or_}
@@ -17,7 +17,7 @@ use Rattle.dma.specs.Fields.{chan}
 use Rattle.board.specs.declared.Board.{Board}
 use Rattle.board.specs.Step.{stepOf}
 use Rattle.board.specs.Records.{recordAt, after}
-use Rattle.intake.specs.Feed.{bytesOf, countOf, taken, fedOf, fedMemory, fedAnswers}
+use Rattle.intake.specs.Feed.{bytesOf, fedOf, fedMemory, fedAnswers}
 
 -- Answer i of the bytes of many answers, and the first n answers.
 unfoldable pub answerAt : List ℕ → ℕ → List ℕ
@@ -88,23 +88,27 @@ mayWrite p c = writes c and (inside p (c .current) (down c) or (auto c and insid
 abbrev pub disturbs : List ℕ → List ℕ → Bool
 disturbs r a = eqb (getD a 0 0) 0 and (eqb (getD r 0 0) 0 or (eqb (getD r 0 0) 1 and leb 32 (getD r 1 0) and ltb (getD r 1 0) 48))
 
--- None of the first n records of the bytes s disturbs the chip, on the way from the board b and the memory m. It is about records
--- that are executed: a refused one does not count, and kept bytes may have begun the first.
-abbrev pub Calm : Board → List ℕ → List ℕ → ℕ → Type 0
-Calm b m s n =
-    (i : ℕ)
-    → i < n
-    → disturbs (recordAt s i) (stepOf (after b m s i .board) (recordAt s i) (after b m s i .memory) .answer) ≡ false
+-- Record i of the bytes s does not disturb the chip, on the way from the board b and the memory m. It is about records that are executed: a refused
+-- one does not count, and kept bytes may have begun the first.
+abbrev pub Quiet : Board → List ℕ → List ℕ → ℕ → Type 0
+Quiet b m s i =
+    disturbs (recordAt s i) (stepOf (after b m s i .board) (recordAt s i) (after b m s i .memory) .answer) ≡ false
 
--- Further calls on the same memory: from a board and a memory, with the answers of all of them, to a memory. Each is taken, and no record
--- of it disturbs the chip.
+-- None of the first n records disturbs it; of the first n records, none from record i on does.
+abbrev pub Calm : Board → List ℕ → List ℕ → ℕ → Type 0
+Calm b m s n = (i : ℕ) → i < n → Quiet b m s i
+
+abbrev pub CalmFrom : ℕ → Board → List ℕ → List ℕ → ℕ → Type 0
+CalmFrom i b m s n = (j : ℕ) → i ≤ j → j < n → Quiet b m s j
+
+-- Further calls on the same memory: from a board and a memory, with the answers of all of them, to a memory. No record of them disturbs the chip. A
+-- call may be refused: it takes no record, so it has no answer here, and leaves board and memory.
 pub data Further : Board → List ℕ → List (List ℕ) → List ℕ → Type 0 where
   none : {b : Board} {m : List ℕ} → Further b m [] m
   call : {b : Board} {m : List ℕ} {more : List (List ℕ)} {m′ : List ℕ} (tape buffer : List ℕ)
-      → taken b tape (length buffer) ≡ true
-      → Calm b m (bytesOf b tape) (countOf b tape)
+      → Calm b m (bytesOf b tape) (fedOf b tape m (length buffer) .records)
       → Further (fedOf b tape m (length buffer) .board) (fedMemory b tape m (length buffer)) more m′
-      → Further b m (answersIn (fedAnswers b tape m buffer) (countOf b tape) ++ more) m′
+      → Further b m (answersIn (fedAnswers b tape m buffer) (fedOf b tape m (length buffer) .records) ++ more) m′
 
 -- With lowest level l, how many levels come before level n: l + 1 has none before it, l itself seven.
 abbrev pub before : ℕ → ℕ → ℕ

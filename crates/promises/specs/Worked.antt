@@ -1,21 +1,23 @@
--- Boards and tapes of which demand 3 and the statements on loading, triggers, waves, half reads, latches, units and withdrawn requests speak, each from reset by a short
+-- Boards and tapes of which demand 3 and the statements on lumps, loading, triggers, waves, half reads, latches, units and withdrawn requests speak, each from reset by a short
 -- tape: so these are not about nothing. (For the other statements on interrupts, see the tapes of Examples.antt.)
 use mathlib.Core.Path.{_≡_}
 use mathlib.Core.List.{List, [], _∷_, _++_}
 use mathlib.Core.Bool.{true, false}
 use Prim.Native.Nat.{ℕ, _+_, _*_, _<_}
-use lib.ListN.{length, replicate}
+use lib.ListN.{take, drop, length, replicate}
 use Rattle.timer.specs.Timer.{at}
 use Rattle.board.specs.declared.Board.{Board}
 use Rattle.board.specs.Wiring.{freshOf}
 use Rattle.board.specs.Step.{stepOf}
 use Rattle.board.specs.Records.{after}
-use Rattle.intake.specs.Feed.{fedOf}
+use Rattle.intake.specs.Feed.{fedOf, fedMemory}
 use Rattle.promises.specs.Records.{writing, setting, acknowledging, advancing, pulsing, cycling, joined}
-use Rattle.promises.specs.Words.{answersIn, unitsOf, dataIn, Calm, requested}
+use Rattle.promises.specs.Words.{answersIn, unitsOf, dataIn, Calm, CalmFrom, Further, requested}
 use Rattle.promises.specs.Reached.{Reached}
 use Rattle.promises.specs.TaughtWords.{loading, readAt, later}
 use Rattle.promises.specs.Waves.{Loaded}
+use Rattle.promises.specs.Modes.{risesIn}
+use Rattle.promises.specs.Chopped.{Lump, called, lumpByLump, Room, Each, advancedOn}
 
 -- Demand 3, a further tape that disturbs nothing and moves three units. Channel 0 in block mode, device to memory, count 2 from address 5, unmasked; its
 -- request goes high.
@@ -104,11 +106,57 @@ masking =
 unfoldable pub outranked : List ℕ
 outranked = joined (writing 0 19 ∷ writing 1 64 ∷ writing 1 1 ∷ setting 0 4 ∷ acknowledging ∷ setting 0 12 ∷ acknowledging ∷ [])
 
+-- Lumps. The tapes of demand 3 above, and three bytes of one record more, on a fresh board: 83 bytes that come as 51, none, 20 and 12. Two of the three units come in records that are cut.
+unfoldable pub chopped : List ℕ
+chopped = setup ++ further ++ 6 ∷ 0 ∷ 5 ∷ []
+
+unfoldable pub firstLump : Lump
+firstLump = record { tape = take 51 chopped; buffer = replicate 96 0 }
+
+unfoldable pub emptyLump : Lump
+emptyLump = record { tape = []; buffer = [] }
+
+unfoldable pub lastLumps : List Lump
+lastLumps =
+    record { tape = take 20 (drop 51 chopped); buffer = replicate 32 0 }
+    ∷ record { tape = drop 71 chopped; buffer = replicate 32 0 }
+    ∷ []
+
+unfoldable pub oneLump : Lump
+oneLump = record { tape = chopped; buffer = replicate 160 0 }
+
+-- Twelve bytes as 7 and 5: an advance of 257 pulses, and four bytes of a record more.
+unfoldable pub sevenAndFive : List Lump
+sevenAndFive =
+    record { tape = take 7 (advancing 257); buffer = [] } ∷ record { tape = 0 ∷ 1 ∷ 2 ∷ 3 ∷ 4 ∷ []; buffer = replicate 16 0 } ∷ []
+
+-- An advance in two. Counter 0 in mode 2 with count 3: OUT0 rises with pulses 4, 7 and 10.
+unfoldable pub rising : Board
+rising = after freshOf [] (joined (writing 19 20 ∷ writing 16 3 ∷ [])) 2 .board
+
 pub record Worked : Type 0 where
   pub reached : Reached board
   pub calm : Calm board memory further 5
   pub units : unitsOf 0 (answersIn (after board memory further 5 .answers) 5) ≡ 5 ∷ 6 ∷ 7 ∷ []
   pub bytes : after board memory further 5 .memory ≡ 1 ∷ 1 ∷ 1 ∷ 1 ∷ 1 ∷ 7 ∷ 8 ∷ 9 ∷ []
+  -- The same in one call, from the end of its fifth record on.
+  pub calm-inside : CalmFrom 5 freshOf memory (setup ++ further) 10
+  pub units-inside : unitsOf 0 (drop 5 (answersIn (after freshOf memory (setup ++ further) 10 .answers) 10)) ≡ 5 ∷ 6 ∷ 7 ∷ []
+  -- With no room the call is refused, and the same tape with room goes on from what it left.
+  pub refused-call : fedOf board further memory 0 .status ≡ 7
+  pub after-refused : Further (fedOf board further memory 0 .board) (fedMemory board further memory 0) (answersIn (after board memory further 5 .answers) 5) (after board memory further 5 .memory)
+  -- The lumps have room, and leave what one call leaves. Three bytes are kept over the empty one, and three at the end.
+  pub roomy : Each Room freshOf memory (firstLump ∷ emptyLump ∷ lastLumps)
+  pub over-an-empty-lump : lumpByLump freshOf memory (firstLump ∷ emptyLump ∷ []) .board .kept .length ≡ 3
+  pub in-lumps : lumpByLump freshOf memory (firstLump ∷ emptyLump ∷ lastLumps) ≡ called freshOf memory oneLump
+  pub lumps-memory : called freshOf memory oneLump .memory ≡ 1 ∷ 1 ∷ 1 ∷ 1 ∷ 1 ∷ 7 ∷ 8 ∷ 9 ∷ []
+  pub lumps-kept : called freshOf memory oneLump .board .kept ≡ record { bytes = 6 ∷ 0 ∷ 5 ∷ 0 ∷ 0 ∷ 0 ∷ 0 ∷ []; length = 3 }
+  -- What the seven bytes left past the four is cleared.
+  pub cleared : lumpByLump freshOf [] sevenAndFive .board .kept ≡ record { bytes = 1 ∷ 2 ∷ 3 ∷ 4 ∷ 0 ∷ 0 ∷ 0 ∷ []; length = 4 }
+  -- Ten pulses have three rises; cut after the fourth, with which OUT0 rises, one and two.
+  pub rises-of-one : risesIn 0 (stepOf rising (advancing 10) [] .answer) ≡ 3
+  pub rises-at-the-cut : risesIn 0 (stepOf rising (advancing 4) [] .answer) ≡ 1
+  pub rises-after-it : risesIn 0 (advancedOn rising [] 4 6 .answer) ≡ 2
   -- Counter 1 in mode 2, both bytes: the tape loads 0205H.
   pub loaded : at (after freshOf [] (loading 1 116 5 2) 4 .board .timer) 1 .value ≡ 517
   -- Count 5 is loaded as 4 in mode 3, and waits for a trigger in mode 1.

@@ -1,0 +1,107 @@
+-- The kept bytes have no part in a record: with others in their place, all else is the same.
+use mathlib.Core.Path.{_≡_, refl, ap, _∙_}
+use mathlib.Core.List.{List}
+use mathlib.Core.Bool.{Bool, true, false}
+use Prim.Native.Nat.{ℕ, zero, suc, _/_}
+use lib.Dec.{eqb}
+use Rattle.bits.specs.Choice.{if_then_else_}
+use Rattle.tape.specs.declared.Operation.{Operation}
+use Rattle.tape.specs.declared.Operation.the-variants.{Reset, Write, Read, Intp, Gates, Requests, Acknowledge, Advance, Cycle}
+use Rattle.tape.specs.declared.Decoded.{Decoded}
+use Rattle.tape.specs.declared.Decoded.the-variants.{Asked, Malformed}
+use Rattle.tape.specs.Records.{byte, decodeOf}
+use Rattle.timer.specs.Timer.{writesOf, readsOf}
+use Rattle.dma.specs.Registers as DmaRegisters
+use Rattle.board.specs.declared.Board.{Board}
+use Rattle.board.specs.Operations.{Outcome, timerWritten, timerShown, dmaWritten, dmaShown, writeOf, readOf, cycleOf, cycleMemory}
+use Rattle.board.specs.Wiring.{levelsOf, rewired}
+use Rattle.board.specs.Advance.{advanceOf}
+use Rattle.board.specs.Step.{executeOf, memoryAfter, blocked, outcomeOf, memoryOf, answeredOf, stepOf, stepMemory}
+use Rattle.board.specs.Records.{recordAt, Run, next, after}
+use Rattle.intake.specs.Feed.{keeping}
+
+module _ (kept : List ℕ) (n : ℕ) where
+  -- A board, an outcome and a run with these bytes kept.
+  abbrev pub K : Board → Board
+  K b = keeping kept n b
+
+  abbrev O : Outcome → Outcome
+  O o = record { status = o .status; board = K (o .board); byte = o .byte; payload = o .payload }
+
+  abbrev pub R : Run → Run
+  R s = record { board = K (s .board); memory = s .memory; answers = s .answers }
+
+  -- One of two, by the same test on either side.
+  choice : (q : Bool) (u v : Outcome) {x y : Outcome} → x ≡ O u → y ≡ O v → (if q then x else y) ≡ O (if q then u else v)
+  choice true u v e f = e
+  choice false u v e f = f
+
+  module _ (b : Board) where
+    write-aside : (p x : ℕ) → writeOf (K b) p x ≡ O (writeOf b p x)
+    unfolding writeOf timerWritten dmaWritten rewired
+    write-aside p x =
+        choice (eqb (p / 16) 0) _ _ refl
+        (choice (eqb (p / 16) 1) _ _
+        (choice (eqb (writesOf (b .timer) p x .status) 0) _ _ refl refl)
+        (choice (eqb (DmaRegisters.writeOf (b .dma) p x .status) 0) _ _ refl refl))
+
+    read-aside : (p : ℕ) → readOf (K b) p ≡ O (readOf b p)
+    unfolding readOf timerShown dmaShown
+    read-aside p =
+        choice (eqb (p / 16) 0) _ _ refl
+        (choice (eqb (p / 16) 1) _ _
+        (choice (eqb (readsOf (b .timer) p .status) 0) _ _ refl refl)
+        (choice (eqb (DmaRegisters.readOf (b .dma) p .status) 0) _ _ refl refl))
+
+    execute-aside : (o : Operation) (m : List ℕ) → executeOf (K b) o m ≡ O (executeOf b o m)
+    unfolding executeOf advanceOf cycleOf rewired
+    execute-aside Reset m = refl
+    execute-aside (Write p x) m = write-aside p x
+    execute-aside (Read p) m = read-aside p
+    execute-aside (Intp l) m = refl
+    execute-aside (Gates l) m = refl
+    execute-aside (Requests l) m = refl
+    execute-aside Acknowledge m = refl
+    execute-aside (Advance k) m = refl
+    execute-aside (Cycle e x) m = refl
+
+    outcome-aside : (d : Decoded) (m : List ℕ) → outcomeOf (K b) d m ≡ O (outcomeOf b d m)
+    unfolding outcomeOf blocked
+    outcome-aside Malformed m = refl
+    outcome-aside (Asked o) m = choice (blocked b o) _ _ refl (execute-aside o m)
+
+    carried-aside : (o : Operation) (m : List ℕ) → memoryAfter (K b) o m ≡ memoryAfter b o m
+    unfolding memoryAfter cycleMemory
+    carried-aside Reset m = refl
+    carried-aside (Write p x) m = refl
+    carried-aside (Read p) m = refl
+    carried-aside (Intp l) m = refl
+    carried-aside (Gates l) m = refl
+    carried-aside (Requests l) m = refl
+    carried-aside Acknowledge m = refl
+    carried-aside (Advance k) m = refl
+    carried-aside (Cycle e x) m = refl
+
+    memory-by : (d : Decoded) (m : List ℕ) → memoryOf (K b) d m ≡ memoryOf b d m
+    unfolding memoryOf blocked
+    memory-by Malformed m = refl
+    memory-by (Asked o) m = ap (λ (k : List ℕ). if blocked b o then m else k) (carried-aside o m)
+
+    pub step-aside : (r m : List ℕ) → stepOf (K b) r m ≡ record { board = K (stepOf b r m .board); answer = stepOf b r m .answer }
+    unfolding stepOf answeredOf levelsOf
+    step-aside r m = ap (answeredOf (byte r 0)) (outcome-aside (decodeOf r) m)
+
+    pub memory-aside : (r m : List ℕ) → stepMemory (K b) r m ≡ stepMemory b r m
+    unfolding stepMemory
+    memory-aside r m = memory-by (decodeOf r) m
+
+    next-aside : (m a r : List ℕ)
+        → next (record { board = K b; memory = m; answers = a }) r ≡ R (next (record { board = b; memory = m; answers = a }) r)
+    next-aside m a r = rw (step-aside r m, memory-aside r m)
+
+  pub after-aside : (b : Board) (m s : List ℕ) (j : ℕ) → after (K b) m s j ≡ R (after b m s j)
+  unfolding after
+  after-aside b m s zero = refl
+  after-aside b m s (suc j) =
+      let x = after b m s j in
+      ap (λ (q : Run). next q (recordAt s j)) (after-aside b m s j) ∙ next-aside (x .board) (x .memory) (x .answers) (recordAt s j)
