@@ -102,7 +102,7 @@ struct limbusagin_dma {
     limbusagin_u8 ends;        /* a bit for each channel */
 };
 
-/* The bytes of a cut record, kept for the next call; zero past length. */
+/* The bytes of a cut record, kept for the next call. Past length they are zero after every call that was taken, and ignored where a board is passed. */
 struct limbusagin_kept {
     limbusagin_u8 bytes[7];
     limbusagin_u8 length;

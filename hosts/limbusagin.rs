@@ -136,7 +136,8 @@ pub struct Dma {
     pub ends: u8,
 }
 
-/// The bytes of a cut record, kept for the next call; zero past `length`.
+/// The bytes of a cut record, kept for the next call. Past `length` they are zero after every call that was taken, and ignored where a board
+/// is passed.
 #[repr(C)]
 #[derive(Clone, Copy, Debug, PartialEq, Eq)]
 pub struct Kept {
