@@ -3,7 +3,7 @@ use mathlib.Core.Path.{_≡_, refl, sym, ap, _∙_}
 use mathlib.Core.List.{List, [], _∷_}
 use mathlib.Core.Bool.{Bool, true, false}
 use Prim.Native.Nat.{ℕ, zero, suc, _+_, _*_, _/_, _%_, _≤_, _<_}
-use native.Mathlib.Nat.{add-zero, add-suc}
+use native.Mathlib.Nat.{add-zero, add-suc, add-assoc}
 use native.Mathlib.Omega.{arith}
 use lib.ListN.{getD}
 use borrow.Author.Tests.{le-leb}
@@ -14,7 +14,8 @@ use Rattle.tape.specs.Answers.{answerOf}
 use Rattle.icu.specs.declared.Icu.{Icu}
 use Rattle.timer.specs.declared.Counter.{Counter}
 use Rattle.timer.specs.declared.Timer.{Timer}
-use Rattle.timer.specs.Run.{riseOf, ranOf}
+use Rattle.timer.specs.declared.Ran.{Ran}
+use Rattle.timer.specs.Run.{riseOf, ranOn, ranOf}
 use Rattle.timer.specs.Pulse.{pulseOf}
 use Rattle.timer.specs.Timer.{at, pulsesOf}
 use Rattle.board.specs.declared.Board.{Board}
@@ -113,14 +114,17 @@ module _ (b : Board) (m : List ℕ) (n k : ℕ) (few : n < 3) (h : k < 65536) wh
       ap (λ (s : Stepped). risesIn n (s .answer)) (advanced b m k h) ∙ reported b k n few small ∙ q
 
 -- Pulses in two parts: of one counter, and of the board.
-ran-on : (c : Counter) (i j : ℕ)
-    → (ranOf c (i + j) .counter ≡ ranOf (ranOf c i .counter) j .counter)
-    × (ranOf c (i + j) .rises ≡ ranOf c i .rises + ranOf (ranOf c i .counter) j .rises)
-unfolding ranOf
-ran-on c i zero = (rw (add-zero i), rw (add-zero i, add-zero (ranOf c i .rises)))
-ran-on c i (suc j) =
-    let h = ran-on c i j in
-    (rw (add-suc, h .0), rw (add-suc, h .0, h .1) (omega arith))
+module _ (c : Counter) (i : ℕ) where
+  abbrev further : Ran → Ran
+  further r = record { counter = r .counter; rises = ranOf c i .rises + r .rises }
+
+  one-more : (r : Ran) → ranOn (further r) ≡ further (ranOn r)
+  one-more r = ap (λ (x : ℕ). record { counter = ranOn r .counter; rises = x }) (add-assoc (ranOf c i .rises) (r .rises) (riseOf (r .counter .out) (pulseOf (r .counter) .out)))
+
+  ran-on : (j : ℕ) → ranOf c (i + j) ≡ further (ranOf (ranOf c i .counter) j)
+  unfolding ranOf
+  ran-on zero = rw (add-zero i, add-zero (ranOf c i .rises))
+  ran-on (suc j) = ap (ranOf c) (add-suc i j) ∙ ap ranOn (ran-on j) ∙ one-more (ranOf (ranOf c i .counter) j)
 
 module _ (intp : ℕ) (t : Timer) (c : Icu) (i : ℕ) where
   abbrev first : Run
@@ -199,7 +203,7 @@ module _ (b : Board) (m : List ℕ) (i j : ℕ) (h : i + j < 65536) where
             ap (λ (x : ℕ). x + risesIn n (stepOf b′ (advancing j) m′ .answer)) (rises-alone b m n i few hi)
             ∙ ap (λ (x : ℕ). ranOf c i .rises + x) (rises-alone b′ m′ n j few hj)
             ∙ ap (λ (d : Counter). ranOf c i .rises + ranOf d j .rises) (counter-alone b m n i few hi)
-            ∙ sym (ran-on c i j .1)
+            ∙ sym (ap (λ (r : Ran). r .rises) (ran-on c i j))
             ∙ sym (rises-alone b m n (i + j) few h);
       }
 

@@ -13,8 +13,8 @@ use Rattle.tape.specs.Records.{byte, decodeOf}
 use Rattle.timer.specs.Timer.{writesOf, readsOf}
 use Rattle.dma.specs.Registers as DmaRegisters
 use Rattle.board.specs.declared.Board.{Board}
-use Rattle.board.specs.Operations.{Outcome, timerWritten, timerShown, dmaWritten, dmaShown, writeOf, readOf, cycleOf, cycleMemory}
-use Rattle.board.specs.Wiring.{levelsOf, rewired}
+use Rattle.board.specs.Operations.{Outcome, telling, done, refused, icuTold, icuWritten, icuShown, a0, timerWritten, timerShown, dmaWritten, dmaShown, writeOf, readOf, cycleOf, cycleMemory}
+use Rattle.board.specs.Wiring.{timer-is, dma-is, levelsOf, rewired}
 use Rattle.board.specs.Advance.{advanceOf}
 use Rattle.board.specs.Step.{executeOf, memoryAfter, blocked, outcomeOf, memoryOf, answeredOf, stepOf, stepMemory}
 use Rattle.board.specs.Records.{recordAt, Run, next, after}
@@ -37,21 +37,39 @@ module _ (kept : List ℕ) (n : ℕ) where
   choice false u v e f = f
 
   module _ (b : Board) where
+    timer-write : (p x : ℕ) → timerWritten (K b) p x ≡ O (timerWritten b p x)
+    unfolding timerWritten rewired
+    timer-write p x =
+        choice (eqb (writesOf (b .timer) p x .status) 0) (done (rewired (b .intp) (writesOf (b .timer) p x .timer) b)) (refused (writesOf (b .timer) p x .status) b) refl refl
+
+    timer-read : (p : ℕ) → timerShown (K b) p ≡ O (timerShown b p)
+    unfolding timerShown
+    timer-read p =
+        choice (eqb (readsOf (b .timer) p .status) 0) (telling (timer-is (readsOf (b .timer) p .timer) b) (readsOf (b .timer) p .byte)) (refused (readsOf (b .timer) p .status) b) refl refl
+
+    dma-write : (p x : ℕ) → dmaWritten (K b) p x ≡ O (dmaWritten b p x)
+    unfolding dmaWritten
+    dma-write p x =
+        choice (eqb (DmaRegisters.writeOf (b .dma) p x .status) 0) (done (dma-is (DmaRegisters.writeOf (b .dma) p x .dma) b)) (refused (DmaRegisters.writeOf (b .dma) p x .status) b) refl refl
+
+    dma-read : (p : ℕ) → dmaShown (K b) p ≡ O (dmaShown b p)
+    unfolding dmaShown
+    dma-read p =
+        choice (eqb (DmaRegisters.readOf (b .dma) p .status) 0) (telling (dma-is (DmaRegisters.readOf (b .dma) p .dma) b) (DmaRegisters.readOf (b .dma) p .byte)) (refused (DmaRegisters.readOf (b .dma) p .status) b) refl refl
+
+    -- The chip that a port names.
+    by-port : (p : ℕ) (u v w : Outcome) {x y z : Outcome} → x ≡ O u → y ≡ O v → z ≡ O w
+        → (if eqb (p / 16) 0 then x else if eqb (p / 16) 1 then y else z) ≡ O (if eqb (p / 16) 0 then u else if eqb (p / 16) 1 then v else w)
+    by-port p u v w e f g = choice (eqb (p / 16) 0) u (if eqb (p / 16) 1 then v else w) e (choice (eqb (p / 16) 1) v w f g)
+
     write-aside : (p x : ℕ) → writeOf (K b) p x ≡ O (writeOf b p x)
-    unfolding writeOf timerWritten dmaWritten rewired
+    unfolding writeOf
     write-aside p x =
-        choice (eqb (p / 16) 0) _ _ refl
-        (choice (eqb (p / 16) 1) _ _
-        (choice (eqb (writesOf (b .timer) p x .status) 0) _ _ refl refl)
-        (choice (eqb (DmaRegisters.writeOf (b .dma) p x .status) 0) _ _ refl refl))
+        by-port p (icuTold b (icuWritten b (a0 p) x)) (timerWritten b p x) (dmaWritten b p x) refl (timer-write p x) (dma-write p x)
 
     read-aside : (p : ℕ) → readOf (K b) p ≡ O (readOf b p)
-    unfolding readOf timerShown dmaShown
-    read-aside p =
-        choice (eqb (p / 16) 0) _ _ refl
-        (choice (eqb (p / 16) 1) _ _
-        (choice (eqb (readsOf (b .timer) p .status) 0) _ _ refl refl)
-        (choice (eqb (DmaRegisters.readOf (b .dma) p .status) 0) _ _ refl refl))
+    unfolding readOf
+    read-aside p = by-port p (icuTold b (icuShown b (a0 p))) (timerShown b p) (dmaShown b p) refl (timer-read p) (dma-read p)
 
     execute-aside : (o : Operation) (m : List ℕ) → executeOf (K b) o m ≡ O (executeOf b o m)
     unfolding executeOf advanceOf cycleOf rewired
@@ -68,7 +86,7 @@ module _ (kept : List ℕ) (n : ℕ) where
     outcome-aside : (d : Decoded) (m : List ℕ) → outcomeOf (K b) d m ≡ O (outcomeOf b d m)
     unfolding outcomeOf blocked
     outcome-aside Malformed m = refl
-    outcome-aside (Asked o) m = choice (blocked b o) _ _ refl (execute-aside o m)
+    outcome-aside (Asked o) m = choice (blocked b o) (refused 1 b) (executeOf b o m) refl (execute-aside o m)
 
     carried-aside : (o : Operation) (m : List ℕ) → memoryAfter (K b) o m ≡ memoryAfter b o m
     unfolding memoryAfter cycleMemory

@@ -35,7 +35,7 @@ rest-at s n (suc (suc (suc (suc (suc (suc zero)))))) h = refl
 rest-at s n (suc (suc (suc (suc (suc (suc (suc i))))))) h = absurd (omega arith)
 
 -- A record is eight bytes.
-record-at : (s : List ℕ) (n i : ℕ) → i < 8 → getD (recordAt s n) i 0 ≡ getD s (8 * n + i) 0
+pub record-at : (s : List ℕ) (n i : ℕ) → i < 8 → getD (recordAt s n) i 0 ≡ getD s (8 * n + i) 0
 unfolding recordAt
 record-at s n zero h = rw add-zero
 record-at s n (suc zero) h = refl

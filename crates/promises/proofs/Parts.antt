@@ -5,11 +5,12 @@ use Prim.Native.Nat.{ℕ, zero, suc, _+_, _*_, _≤_, _<_}
 use native.Mathlib.Nat.{add-zero, add-suc}
 use native.Mathlib.Omega.{arith}
 use lib.ListN.{getD, length, take, drop, length-drop, List·getD-append}
-use lib.Seq.{getD-drop}
+use lib.Seq.{getD-drop, ext-getD}
 use Rattle.board.specs.declared.Board.{Board}
 use Rattle.board.specs.Step.{stepOf}
 use Rattle.board.specs.Records.{recordAt, Run, next, after}
 use Rattle.intake.specs.Records.{restAt}
+use Rattle.promises.proofs.Calls.{record-at}
 
 -- Record j after the first i, and what is left after i + j of them.
 module _ (s : List ℕ) (i j : ℕ) where
@@ -49,17 +50,15 @@ on-from b m s i (suc j) =
 record-before : (s t : List ℕ) (i : ℕ) → 8 * i + 8 ≤ length s → recordAt (s ++ t) i ≡ recordAt s i
 unfolding recordAt
 record-before s t i h =
-    rw (at (8 * i) (omega (arith, h)), at (8 * i + 1) (omega (arith, h)), at (8 * i + 2) (omega (arith, h)), at (8 * i + 3) (omega (arith, h)), at (8 * i + 4) (omega (arith, h)), at (8 * i + 5) (omega (arith, h)), at (8 * i + 6) (omega (arith, h)), at (8 * i + 7) (omega (arith, h)))
-  where
-    at : (j : ℕ) → j < length s → getD (s ++ t) j 0 ≡ getD s j 0
-    at j l = List·getD-append s t 0 j l
+    ext-getD 0 (recordAt (s ++ t) i) (recordAt s i) refl
+    (λ c l. record-at (s ++ t) i c l ∙ List·getD-append s t 0 (8 * i + c) (omega (arith, h, l)) ∙ sym (record-at s i c l))
 
 pub after-before : (b : Board) (m s t : List ℕ) (n : ℕ) → 8 * n ≤ length s → after b m (s ++ t) n ≡ after b m s n
 unfolding after
 after-before b m s t zero h = refl
 after-before b m s t (suc n) h =
     let l : 8 * n ≤ length s = omega arith in
-    rw (after-before b m s t n l, record-before s t n (omega arith))
+    ap (λ (q : Run). next q (recordAt (s ++ t) n)) (after-before b m s t n l) ∙ ap (next (after b m s n)) (record-before s t n (omega arith))
 
 -- What is left is kept: the first n of the seven bytes are those past the last whole record.
 seven : List ℕ → List ℕ

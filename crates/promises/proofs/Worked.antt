@@ -12,6 +12,7 @@ use Rattle.timer.specs.Timer.{at}
 use Rattle.board.specs.declared.Board.{Board}
 use Rattle.board.specs.Wiring.{freshOf}
 use Rattle.board.specs.Records.{recordAt, after}
+use Rattle.intake.specs.Feed.{fedMemory, fedAnswers}
 use Rattle.promises.specs.Records.{pulsing, cycling, joined}
 use Rattle.promises.specs.Table.{formed, uses, among}
 use Rattle.promises.specs.Words.{answerAt, answersIn, unitsOf, dataIn, Calm, CalmFrom, Further, none as none-more, call, asks}
@@ -51,8 +52,8 @@ calm-inside (suc (suc zero)) h l = absurd (omega (arith, h))
 calm-inside (suc (suc (suc zero))) h l = absurd (omega (arith, h))
 calm-inside (suc (suc (suc (suc zero)))) h l = absurd (omega (arith, h))
 
-after-refused : Further board memory (answersIn (after board memory further 5 .answers) 5) (after board memory further 5 .memory)
-unfolding rules setup further memory board answerAt answersIn unitsOf joined
+after-refused : Further board memory (answersIn (fedAnswers board further memory (replicate 80 0)) 5 ++ []) (fedMemory board further memory 80)
+unfolding rules setup further memory board joined
 after-refused = call {b = board} {m = memory} further (replicate 80 0) calm none-more
 
 with-room : (b : Board) (m : List ℕ) (l : Lump) (more : List Lump) → Room b m l → Each Room (called b m l .board) (called b m l .memory) more → Each Room b m (l ∷ more)

@@ -10,7 +10,7 @@ use Rattle.board.specs.declared.Board.{Board}
 use Rattle.board.specs.Wiring.{freshOf}
 use Rattle.board.specs.Step.{stepOf}
 use Rattle.board.specs.Records.{after}
-use Rattle.intake.specs.Feed.{fedOf, fedMemory}
+use Rattle.intake.specs.Feed.{fedOf, fedMemory, fedAnswers}
 use Rattle.promises.specs.Records.{writing, setting, acknowledging, advancing, pulsing, cycling, joined}
 use Rattle.promises.specs.Words.{answersIn, unitsOf, dataIn, Calm, CalmFrom, Further, requested}
 use Rattle.promises.specs.Reached.{Reached}
@@ -144,7 +144,7 @@ pub record Worked : Type 0 where
   pub units-inside : unitsOf 0 (drop 5 (answersIn (after freshOf memory (setup ++ further) 10 .answers) 10)) ≡ 5 ∷ 6 ∷ 7 ∷ []
   -- With no room the call is refused, and the same tape with room goes on from what it left.
   pub refused-call : fedOf board further memory 0 .status ≡ 7
-  pub after-refused : Further (fedOf board further memory 0 .board) (fedMemory board further memory 0) (answersIn (after board memory further 5 .answers) 5) (after board memory further 5 .memory)
+  pub after-refused : Further (fedOf board further memory 0 .board) (fedMemory board further memory 0) (answersIn (fedAnswers board further memory (replicate 80 0)) 5 ++ []) (fedMemory board further memory 80)
   -- The lumps have room, and leave what one call leaves. Three bytes are kept over the empty one, and three at the end.
   pub roomy : Each Room freshOf memory (firstLump ∷ emptyLump ∷ lastLumps)
   pub over-an-empty-lump : lumpByLump freshOf memory (firstLump ∷ emptyLump ∷ []) .board .kept .length ≡ 3
