@@ -19,11 +19,11 @@ OUT = os.path.join(ROOT, "crates/board/proofs/Board/run/Proof.antt")
 MADE = os.path.join(ROOT, "target/loop")
 
 BYTES = "take size kept ++ tape"
-START = "record { icu = icu₀; intp = intp₀; timer = timer₀; dma = dma₀; kept = waiting }"
-NOW = "record { icu = icu; intp = intp; timer = timer; dma = dma; kept = waiting }"
+START = "record { icu = icu₀; intp = intp₀; slave = slave₀; slaveintp = slaveintp₀; timer = timer₀; dma = dma₀; kept = waiting }"
+NOW = "record { icu = icu; intp = intp; slave = slave; slaveintp = slaveintp; timer = timer; dma = dma; kept = waiting }"
 
 # The locals at the head of the loop, as rt names them: those that are there when it begins, then those that a turn changes.
-LOCALS = "kept size tape memory₀ answers₀ waiting total k levels₀ icu₀ intp₀ timer₀ dma₀ i₀ memory answers levels icu intp timer dma i"
+LOCALS = "kept size tape memory₀ answers₀ waiting total k levels₀ icu₀ intp₀ slave₀ slaveintp₀ joined₀ timer₀ dma₀ i₀ memory answers levels icu intp slave slaveintp joined timer dma i"
 
 # What holds at the head of the loop, in the order in which the answers below count it.
 INVARIANT = [
@@ -33,6 +33,7 @@ INVARIANT = [
     f"{NOW} ≡ after ({START}) memory₀ ({BYTES}) i .board",
     f"memory ≡ after ({START}) memory₀ ({BYTES}) i .memory",
     f"answers ≡ after ({START}) memory₀ ({BYTES}) i .answers ++ drop (16 * i) answers₀",
+    "joined ≡ joinedOf intp slave slaveintp",
     f"levels ≡ levelsOf ({NOW})",
 ]
 
@@ -77,21 +78,21 @@ def is_bare(w):
 
 
 def malformed(w):
-    return f"malformed n (q .result) (l .memory) (l .levels) (l .inv .6) (sym {ensures(w, 'decode')} ∙ {w('enum-told')} .given .1)"
+    return f"malformed n (q .result) (l .memory) (l .joined) (l .inv .6) (l .levels) (l .inv .7) (sym {ensures(w, 'decode')} ∙ {w('enum-told')} .given .1)"
 
 
 def free(w, law):
     """A law of an operation that nothing holds up."""
-    return f"{law} n (q .result) (l .memory) (l .levels) (l .inv .6) _ (sym {ensures(w, 'decode')} ∙ {w('d')} .given .1) (sym {ensures(w, 'is-blocked')} ∙ {w('if1')} .left)"
+    return f"{law} n (q .result) (l .memory) (l .joined) (l .inv .6) (l .levels) (l .inv .7) _ (sym {ensures(w, 'decode')} ∙ {w('d')} .given .1) (sym {ensures(w, 'is-blocked')} ∙ {w('if1')} .left)"
 
 
 def held_up(w):
-    return f"held-up n (q .result) (l .memory) (l .levels) (l .inv .6) _ (sym {ensures(w, 'decode')} ∙ {w('d')} .given .1) (sym {ensures(w, 'is-blocked')} ∙ {w('if1')} .taken)"
+    return f"held-up n (q .result) (l .memory) (l .joined) (l .inv .6) (l .levels) (l .inv .7) _ (sym {ensures(w, 'decode')} ∙ {w('d')} .given .1) (sym {ensures(w, 'is-blocked')} ∙ {w('if1')} .taken)"
 
 
 def reset(w):
-    facts = " ".join(f"({w(c)} .ensures)" for c in ("reset", "reset2", "reset3"))
-    return f"{free(w, 'reset')} {is_bare(w)} _ _ _ {facts}"
+    facts = " ".join(f"({w(c)} .ensures)" for c in ("reset", "reset2", "reset3", "reset4"))
+    return f"{free(w, 'reset')} {is_bare(w)} _ _ _ _ {facts}"
 
 
 def tests(w):
@@ -115,13 +116,23 @@ def refused_timer(w):
 
 
 def wrote_dma(w):
-    a, b, c = tests(w)
-    return f"{free(w, 'wrote-dma')} _ _ {is_op(w)} ({a} .left) ({b} .left) _ {ensures(w, 'write')} ({c} .taken)"
+    a, b, c, d = tests(w)
+    return f"{free(w, 'wrote-dma')} _ _ {is_op(w)} ({a} .left) ({b} .left) ({c} .taken) _ {ensures(w, 'write')} ({d} .taken)"
 
 
 def refused_dma(w):
-    a, b, c = tests(w)
-    return f"{free(w, 'refused-dma')} _ _ {is_op(w)} ({a} .left) ({b} .left) _ {ensures(w, 'write')} ({c} .left)"
+    a, b, c, d = tests(w)
+    return f"{free(w, 'refused-dma')} _ _ {is_op(w)} ({a} .left) ({b} .left) ({c} .taken) _ {ensures(w, 'write')} ({d} .left)"
+
+
+def wrote_slave(w):
+    a, b, c, d = tests(w)
+    return f"{free(w, 'wrote-slave')} _ _ {is_op(w)} ({a} .left) ({b} .left) ({c} .left) _ {ensures(w, 'write-icu')} ({d} .taken) _ {ensures(w, 'join')} _ {ensures(w, 'rewire')}"
+
+
+def refused_slave(w):
+    a, b, c, d = tests(w)
+    return f"{free(w, 'refused-slave')} _ _ {is_op(w)} ({a} .left) ({b} .left) ({c} .left) _ {ensures(w, 'write-icu')} ({d} .left)"
 
 
 def read_icu(w):
@@ -135,12 +146,17 @@ def read_timer(w):
 
 
 def read_dma(w):
-    a, b = tests(w)
-    return f"{free(w, 'read-dma')} _ {is_op(w)} ({a} .left) ({b} .left) _ {ensures(w, 'look')}"
+    a, b, c = tests(w)
+    return f"{free(w, 'read-dma')} _ {is_op(w)} ({a} .left) ({b} .left) ({c} .taken) _ {ensures(w, 'look')}"
+
+
+def read_slave(w):
+    a, b, c = tests(w)
+    return f"{free(w, 'read-slave')} _ {is_op(w)} ({a} .left) ({b} .left) ({c} .left) _ {ensures(w, 'read-icu')}"
 
 
 def intp(w):
-    return f"{free(w, 'intp')} _ {is_op(w)} _ {ensures(w, 'rewire')}"
+    return f"{free(w, 'intp')} _ {is_op(w)} _ {ensures(w, 'join')} _ {ensures(w, 'rewire')}"
 
 
 def gates(w):
@@ -151,8 +167,28 @@ def requests(w):
     return f"{free(w, 'requests')} _ {is_op(w)} _ {ensures(w, 'set-requests')}"
 
 
+def slave_intp(w):
+    return f"{free(w, 'slave-intp')} _ {is_op(w)} _ {ensures(w, 'lines')} _ {ensures(w, 'join')} _ {ensures(w, 'rewire')}"
+
+
+def asked(w, law):
+    return f"{free(w, law)} {is_bare(w)} _ {ensures(w, 'lines-at')}"
+
+
+def passed_on(w):
+    return f"{asked(w, 'passed-on')} (sym {ensures(w, 'is-passed-on')} ∙ {tests(w)[0]} .taken) _ {ensures(w, 'acknowledge')} _ {ensures(w, 'join')} _ {ensures(w, 'serve')} _ {ensures(w, 'rewire')}"
+
+
+def answered(w, end):
+    return f"(sym {ensures(w, 'is-passed-on')} ∙ {tests(w)[0]} .left) (sym {ensures(w, 'is-answered')} ∙ {tests(w)[1]} .{end})"
+
+
 def acknowledge(w):
-    return f"{free(w, 'acknowledge')} {is_bare(w)} _ {ensures(w, 'lines-at')} _ _ {ensures(w, 'acknowledge')} {ensures(w, 'levels-at')}"
+    return f"{asked(w, 'acknowledge')} {answered(w, 'taken')} _ _ {ensures(w, 'acknowledge')} {ensures(w, 'levels-at')}"
+
+
+def unanswered(w):
+    return f"{asked(w, 'unanswered')} {answered(w, 'left')}"
 
 
 def advance(w):
@@ -177,13 +213,19 @@ ARMS = [
     (refused_timer, None),
     (wrote_dma, None),
     (refused_dma, None),
+    (wrote_slave, None),
+    (refused_slave, None),
     (read_icu, None),
     (read_timer, None),
     (read_dma, None),
+    (read_slave, None),
     (intp, None),
     (gates, None),
     (requests, None),
+    (slave_intp, None),
+    (passed_on, None),
     (acknowledge, None),
+    (unanswered, None),
     (advance, None),
     (plain_unit, ("transfer", " .1 .1 .0")),
     (cycle, ("cycle", " .1 .1 .1 .0")),
@@ -200,10 +242,10 @@ def again(w, law, lent):
     let a = {w('args')} in
     let p = {w.last('tell')} in
     let q = {w('record-at')} in
-    let n : Board = record {{ icu = l .icu; intp = l .intp; timer = l .timer; dma = l .dma; kept = a .self .kept }} in
+    let n : Board = record {{ icu = l .icu; intp = l .intp; slave = l .slave; slaveintp = l .slaveintp; timer = l .timer; dma = l .dma; kept = a .self .kept }} in
     round (a .self) (a .memory .now) (take (a .size) (a .kept) ++ a .tape .now)
     (omega (arith, {w('loop-test')} .taken)) ({kept}) (p .kept .0 ∙ l .inv .2)
-    (l .i) n _ (l .memory) (q .result) ({memory}) (l .answers) (p .last .0) (a .answers .now) _ _
+    (l .i) n _ (l .memory) (q .result) ({memory}) (l .answers) (p .last .0) (a .answers .now) _ _ _
     (l .inv .3) (l .inv .4) (l .inv .5) (q .ensures) ({law(w)}) (p .ensures)"""
 
 
@@ -216,7 +258,7 @@ def answer(name, w, arm):
     if stem == "loop-again":
         return again(w, *ARMS[arm])
     if stem == "loop-holds":
-        return f"(search needs, refl, refl, refl, refl, refl, {w('levels')} .ensures)"
+        return f"(search needs, refl, refl, refl, refl, refl, {w('join')} .ensures, {w('levels')} .ensures)"
     if stem == "record-at-requires":
         return f"omega (arith, {w('count-bytes')} .ensures .1, {w('least')} .ensures .1 .0, {w('loop-test')} .taken)"
     if stem == "tell-requires":
@@ -252,6 +294,7 @@ use Rattle.tape.specs.declared.Operation.{Operation}
 use Rattle.tape.specs.declared.Decoded.the-variants.{Asked}
 use Rattle.tape.proofs.Decodes.{read-counter}
 use Rattle.board.specs.declared.Board.{Board}
+use Rattle.cascade.specs.Cascade.{joinedOf}
 use Rattle.board.specs.Wiring.{levelsOf}
 use Rattle.board.specs.Records.{after, fitting}
 use Rattle.board.proofs.Runs.{round}
@@ -262,7 +305,7 @@ use Rattle.board.proofs.Board.run.Reads as reads
 use Rattle.board.proofs.Board.run.Lts as lts
 """
 
-LAWS = "malformed, held-up, reset, wrote-icu, wrote-timer, refused-timer, wrote-dma, refused-dma, read-icu, read-timer, read-dma, intp, gates, requests, acknowledge, advance, plain-unit, cycle-by-call"
+LAWS = "malformed, held-up, reset, wrote-icu, wrote-timer, refused-timer, wrote-dma, refused-dma, wrote-slave, refused-slave, read-icu, read-timer, read-dma, read-slave, intp, gates, requests, slave-intp, passed-on, acknowledge, unanswered, advance, plain-unit, cycle-by-call"
 
 
 # ---- what rt makes of the function

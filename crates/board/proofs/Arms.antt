@@ -10,7 +10,7 @@ use lib.ListN.{set}
 use Rattle.bits.specs.Choice.{if_then_else_, _and_}
 use Rattle.tape.specs.Answers.{answerOf, littleOf, twelve}
 use Rattle.tape.specs.declared.Operation.{Operation}
-use Rattle.tape.specs.declared.Operation.the-variants.{Reset, Write, Read, Intp, Gates, Requests, Acknowledge, Advance, Cycle}
+use Rattle.tape.specs.declared.Operation.the-variants.{Reset, Write, Read, Intp, Gates, Requests, SlaveIntp, Acknowledge, Advance, Cycle}
 use Rattle.tape.specs.declared.Decoded.{Decoded}
 use Rattle.tape.specs.declared.Decoded.the-variants.{Asked, Malformed}
 use Rattle.tape.specs.Records.{byte, decodeOf, usesBus}
@@ -18,7 +18,8 @@ use Rattle.icu.specs.declared.Icu.{Icu}
 use Rattle.icu.specs.Answers as IcuAnswers
 use Rattle.icu.specs.Words as IcuWords
 use Rattle.icu.specs.Service as IcuService
-use Rattle.icu.specs.Requests.{irrOf, intOf}
+use Rattle.icu.specs.Requests.{irrOf, intOf, linesOf}
+use Rattle.cascade.specs.Cascade.{masterIw3, slaveIw3, joinedOf, answered, passedOn}
 use Rattle.timer.specs.declared.Timer.{Timer}
 use Rattle.timer.specs.declared.Written as TimerWritten
 use Rattle.timer.specs.declared.Seen as TimerSeen
@@ -43,8 +44,8 @@ use Rattle.board.specs.declared.Stepped.{Stepped}
 use Rattle.board.specs.declared.Turn.{Turn}
 use Rattle.board.specs.declared.Wired.{Wired}
 use Rattle.board.specs.declared.Run.{Run}
-use Rattle.board.specs.Wiring.{icu-is, timer-is, dma-is, lines, linesAt, levelsOf, levelsAt, resetOf, rewired, wiredTo}
-use Rattle.board.specs.Operations.{Outcome, done, telling, refused, icuTold, turnOf, a0, icuWritten, icuShown, acknowledged, timerWritten, timerShown, dmaWritten, dmaShown, writeOf, readOf, flagOf, payloadOf, cycleOf, cycleMemory}
+use Rattle.board.specs.Wiring.{icu-is, intp-is, slave-is, timer-is, dma-is, joined, lines, linesAt, levelsOf, levelsAt, resetOf, followed, wiredTo}
+use Rattle.board.specs.Operations.{Outcome, done, telling, refused, toldWith, icuTold, turnOf, a0, icuWritten, icuShown, slaveLines, slaveWritten, slaveShown, acknowledged, slaveTells, slaveGives, acknowledgeOf, timerWritten, timerShown, dmaWritten, dmaShown, writeOf, readOf, flagOf, payloadOf, cycleOf, cycleMemory}
 use Rattle.board.specs.Advance.{advancedOf, risesPayload, advanceOf}
 use Rattle.board.proofs.Runs.{Turned}
 use Rattle.board.specs.Step.{executeOf, memoryAfter, blocked, outcomeOf, memoryOf, answeredOf, stepOf, stepMemory}
@@ -73,19 +74,19 @@ module _ (b : Board) where
       ap (λ (z : Board). record { status = s; board = z; byte = 0; payload = twelve [] }) (sym (k .0))
       ∙ ap (λ (z : ℕ). record { status = s; board = b′; byte = z; payload = twelve [] }) (sym (k .1))
 
-module _ (b : Board) (r m : List ℕ) (l : ℕ) (el : l ≡ levelsOf b) where
+module _ (b : Board) (r m : List ℕ) (j : ℕ) (ej : j ≡ joined b) (l : ℕ) (el : l ≡ levelsOf b) where
   -- an answer with no data, and none but its status
   abbrev plainly : ℕ → ℕ → List ℕ
   plainly s n = answerOf s (byte r 0) 0 n (twelve [])
 
-  pub malformed : decodeOf r ≡ Malformed → Turned b r m b m l (plainly 2 l)
+  pub malformed : decodeOf r ≡ Malformed → Turned b r m b m j l (plainly 2 l)
   unfolding stepOf stepMemory answeredOf outcomeOf memoryOf
-  malformed e = rw (e, el) (refl, refl, refl, refl)
+  malformed e = rw (e, ej, el) (refl, refl, refl, refl, refl)
 
   module _ (o : Operation) (e : decodeOf r ≡ Asked o) where
-    pub held-up : (b .dma .serving and usesBus o) ≡ true → Turned b r m b m l (plainly 1 l)
+    pub held-up : (b .dma .serving and usesBus o) ≡ true → Turned b r m b m j l (plainly 1 l)
     unfolding stepOf stepMemory answeredOf outcomeOf memoryOf blocked
-    held-up h = rw (e, h, el) (refl, refl, refl, refl)
+    held-up h = rw (e, h, ej, el) (refl, refl, refl, refl, refl)
 
     module _ (free : (b .dma .serving and usesBus o) ≡ false) where
       asked : stepOf b r m ≡ answeredOf (byte r 0) (executeOf b o m)
@@ -96,37 +97,54 @@ module _ (b : Board) (r m : List ℕ) (l : ℕ) (el : l ≡ levelsOf b) where
       unfolding stepMemory memoryOf blocked
       asked-memory = rw (e, free)
 
-      -- what the operation comes to, with the levels after it
-      carried : (out : Outcome) (m′ : List ℕ) (n : ℕ)
+      -- what the operation comes to, with INTP as the master has them and the levels after it
+      carried : (out : Outcome) (m′ : List ℕ) (k n : ℕ)
           → executeOf b o m ≡ out
           → memoryAfter b o m ≡ m′
+          → k ≡ joined (out .board)
           → n ≡ levelsOf (out .board)
-          → Turned b r m (out .board) m′ n (answerOf (out .status) (byte r 0) (out .byte) n (out .payload))
+          → Turned b r m (out .board) m′ k n (answerOf (out .status) (byte r 0) (out .byte) n (out .payload))
       unfolding answeredOf
-      carried out m′ n eo em en =
+      carried out m′ k n eo em ek en =
           let s : stepOf b r m ≡ answeredOf (byte r 0) out = asked ∙ ap (λ (y : Outcome). answeredOf (byte r 0) y) eo in (
             ap (λ (y : Stepped). y .board) (sym s),
             sym (asked-memory ∙ em),
             ap (λ (k : ℕ). answerOf (out .status) (byte r 0) (out .byte) k (out .payload)) en
                 ∙ ap (λ (y : Stepped). y .answer) (sym s),
+            ek,
             en,
           )
 
       pub reset : o ≡ Reset
-          → (c : Icu) (t : Timer) (d : Dma) → c ≡ IcuWords.resetOf → t ≡ resetsOf → d ≡ DmaRegisters.resetOf
-          → Turned b r m (record { icu = c; intp = 0; timer = t; dma = d; kept = b .kept }) m 0 (plainly 0 0)
-      unfolding executeOf memoryAfter levelsOf intOf IcuWords.resetOf outsOf resetsOf
-      reset v c t d ec et ed =
-          rw (ec, et, ed) (carried (done (resetOf b)) m 0 (ap (λ (k : Operation). executeOf b k m) v) (ap (λ (k : Operation). memoryAfter b k m) v) refl)
+          → (c s : Icu) (t : Timer) (d : Dma) → c ≡ IcuWords.resetOf → s ≡ IcuWords.resetOf → t ≡ resetsOf → d ≡ DmaRegisters.resetOf
+          → Turned b r m (record { icu = c; intp = 0; slave = s; slaveintp = 0; timer = t; dma = d; kept = b .kept }) m 0 0 (plainly 0 0)
+      unfolding executeOf memoryAfter levelsOf intOf joinedOf IcuWords.resetOf outsOf resetsOf
+      reset v c s t d ec es et ed =
+          rw (ec, es, et, ed) (carried (done (resetOf b)) m 0 0 (ap (λ (k : Operation). executeOf b k m) v) (ap (λ (k : Operation). memoryAfter b k m) v) refl refl)
 
-      -- the interrupt chip's turn: a write, an acknowledge
+      -- the master's turn: a write, an acknowledge that it answers by itself
       turned-icu : (t : IcuAnswers.Told) → executeOf b o m ≡ icuTold b t → memoryAfter b o m ≡ m
-          → (w : Turn) (n : ℕ) → w ≡ turnOf t → n ≡ levelsAt (w .icu) (b .intp) (b .timer)
-          → Turned b r m (icu-is (w .icu) b) m n (answerOf (w .status) (byte r 0) (w .byte) n (w .payload))
+          → (w : Turn) (n : ℕ) → w ≡ turnOf t → n ≡ levelsAt (w .icu) j (b .timer)
+          → Turned b r m (icu-is (w .icu) b) m j n (answerOf (w .status) (byte r 0) (w .byte) n (w .payload))
       unfolding levelsOf
       turned-icu t ex em w n ew en =
-          carried (record { status = w .status; board = icu-is (w .icu) b; byte = w .byte; payload = w .payload }) m n
-          (ex ∙ ap (λ (z : Turn). record { status = z .status; board = icu-is (z .icu) b; byte = z .byte; payload = z .payload }) (sym ew)) em en
+          carried (record { status = w .status; board = icu-is (w .icu) b; byte = w .byte; payload = w .payload }) m j n
+          (ex ∙ ap (λ (z : Turn). record { status = z .status; board = icu-is (z .icu) b; byte = z .byte; payload = z .payload }) (sym ew)) em ej
+          (en ∙ ap (λ (z : ℕ). levelsAt (w .icu) z (b .timer)) ej)
+
+      -- the master's lines move: the record has made d of the board, but for the master, and this follows
+      follows : (s x : ℕ) (p : List ℕ) (d : Board) (k : ℕ) → k ≡ joined d
+          → executeOf b o m ≡ record { status = s; board = followed b d; byte = x; payload = p }
+          → memoryAfter b o m ≡ m
+          → (w : Wired) → w ≡ wiredTo (d .icu) (linesAt j (b .timer)) k (d .timer)
+          → Turned b r m (icu-is (w .icu) d) m k (w .levels) (answerOf s (byte r 0) x (w .levels) p)
+      unfolding levelsOf
+      follows s x p d k ek ex em w ew =
+          let e : w ≡ wiredTo (d .icu) (lines b) (joined d) (d .timer) =
+          ew
+          ∙ ap (λ (z : ℕ). wiredTo (d .icu) (linesAt z (b .timer)) k (d .timer)) ej
+          ∙ ap (λ (z : ℕ). wiredTo (d .icu) (lines b) z (d .timer)) ek
+          in rw e (carried (record { status = s; board = followed b d; byte = x; payload = p }) m k _ ex em ek refl)
 
       module _ (p x : ℕ) (v : o ≡ Write p x) where
         wrote : executeOf b o m ≡ writeOf b p x
@@ -138,14 +156,14 @@ module _ (b : Board) (r m : List ℕ) (l : ℕ) (el : l ≡ levelsOf b) where
         wrote-none = ap (λ (k : Operation). memoryAfter b k m) v
 
         pub wrote-icu : p / 16 ≡ 0
-            → (w : Turn) (n : ℕ) → w ≡ turnOf (IcuWords.writeOf (b .icu) (a0 p) x) → n ≡ levelsAt (w .icu) (b .intp) (b .timer)
-            → Turned b r m (icu-is (w .icu) b) m n (answerOf (w .status) (byte r 0) (w .byte) n (w .payload))
+            → (w : Turn) (n : ℕ) → w ≡ turnOf (IcuWords.writeOf (b .icu) masterIw3 (a0 p) x) → n ≡ levelsAt (w .icu) j (b .timer)
+            → Turned b r m (icu-is (w .icu) b) m j n (answerOf (w .status) (byte r 0) (w .byte) n (w .payload))
         unfolding writeOf
         wrote-icu q = turned-icu (icuWritten b (a0 p) x) (wrote ∙ rw (eq-eqb _ _ q)) wrote-none
 
-        -- refused, by either of the other chips: nothing changes
-        pub wrote-nothing : (s : ℕ) → writeOf b p x ≡ refused s b → Turned b r m b m l (plainly s l)
-        wrote-nothing s e = carried (refused s b) m l (wrote ∙ e) wrote-none el
+        -- refused, by any of the other chips: nothing changes
+        pub wrote-nothing : (s : ℕ) → writeOf b p x ≡ refused s b → Turned b r m b m j l (plainly s l)
+        wrote-nothing s e = carried (refused s b) m j l (wrote ∙ e) wrote-none ej el
 
         module _ (q₀ : p / 16 ≡ 0 → ⊥) (q₁ : p / 16 ≡ 1) (w : TimerWritten.Written) (ew : w ≡ writesOf (b .timer) p x) where
           to-timer : writeOf b p x ≡ timerWritten b p x
@@ -153,29 +171,51 @@ module _ (b : Board) (r m : List ℕ) (l : ℕ) (el : l ≡ levelsOf b) where
           to-timer = rw (ne-eqb _ _ q₀, eq-eqb _ _ q₁)
 
           pub wrote-timer : w .status ≡ 0
-              → (d : Wired) → d ≡ wiredTo (b .icu) (lines b) (b .intp) (w .timer)
-              → Turned b r m (record { icu = d .icu; intp = b .intp; timer = w .timer; dma = b .dma; kept = b .kept }) m (d .levels) (plainly 0 (d .levels))
-          unfolding timerWritten rewired levelsOf
+              → (d : Wired) → d ≡ wiredTo (b .icu) (linesAt j (b .timer)) j (w .timer)
+              → Turned b r m (icu-is (d .icu) (timer-is (w .timer) b)) m j (d .levels) (plainly 0 (d .levels))
+          unfolding timerWritten
           wrote-timer z d ed =
-              rw (ed, ew) (carried (done (rewired (b .intp) (writesOf (b .timer) p x .timer) b)) m _ (wrote ∙ to-timer ∙ rw (← ew, eq-eqb _ _ z)) wrote-none refl)
+              follows 0 0 (twelve []) (timer-is (w .timer) b) j ej (wrote ∙ to-timer ∙ rw (← ew, eq-eqb _ _ z)) wrote-none d ed
 
-          pub refused-timer : (w .status ≡ 0 → ⊥) → Turned b r m b m l (plainly (w .status) l)
+          pub refused-timer : (w .status ≡ 0 → ⊥) → Turned b r m b m j l (plainly (w .status) l)
           unfolding timerWritten
           refused-timer z = wrote-nothing (w .status) (to-timer ∙ rw (← ew, ne-eqb _ _ z))
 
-        module _ (q₀ : p / 16 ≡ 0 → ⊥) (q₁ : p / 16 ≡ 1 → ⊥) (w : DmaWritten.Written) (ew : w ≡ DmaRegisters.writeOf (b .dma) p x) where
+        module _ (q₀ : p / 16 ≡ 0 → ⊥) (q₁ : p / 16 ≡ 1 → ⊥) (q₂ : p / 16 ≡ 2) (w : DmaWritten.Written) (ew : w ≡ DmaRegisters.writeOf (b .dma) p x) where
           to-dma : writeOf b p x ≡ dmaWritten b p x
           unfolding writeOf
-          to-dma = rw (ne-eqb _ _ q₀, ne-eqb _ _ q₁)
+          to-dma = rw (ne-eqb _ _ q₀, ne-eqb _ _ q₁, eq-eqb _ _ q₂)
 
-          pub wrote-dma : w .status ≡ 0 → Turned b r m (dma-is (w .dma) b) m l (plainly 0 l)
+          pub wrote-dma : w .status ≡ 0 → Turned b r m (dma-is (w .dma) b) m j l (plainly 0 l)
           unfolding dmaWritten levelsOf
           wrote-dma z =
-              carried (done (dma-is (w .dma) b)) m l (wrote ∙ to-dma ∙ rw (← ew, eq-eqb _ _ z)) wrote-none el
+              carried (done (dma-is (w .dma) b)) m j l (wrote ∙ to-dma ∙ rw (← ew, eq-eqb _ _ z)) wrote-none ej el
 
-          pub refused-dma : (w .status ≡ 0 → ⊥) → Turned b r m b m l (plainly (w .status) l)
+          pub refused-dma : (w .status ≡ 0 → ⊥) → Turned b r m b m j l (plainly (w .status) l)
           unfolding dmaWritten
           refused-dma z = wrote-nothing (w .status) (to-dma ∙ rw (← ew, ne-eqb _ _ z))
+
+        module _ (q₀ : p / 16 ≡ 0 → ⊥) (q₁ : p / 16 ≡ 1 → ⊥) (q₂ : p / 16 ≡ 2 → ⊥) (w : Turn) (ew : w ≡ turnOf (IcuWords.writeOf (b .slave) slaveIw3 (a0 p) x)) where
+          to-slave : writeOf b p x ≡ slaveWritten b (a0 p) x
+          unfolding writeOf
+          to-slave = rw (ne-eqb _ _ q₀, ne-eqb _ _ q₁, ne-eqb _ _ q₂)
+
+          abbrev written : Turn → Outcome
+          written z = if eqb (z .status) 0 then done (followed b (slave-is (z .icu) (b .slaveintp) b)) else refused (z .status) b
+
+          as-written : writeOf b p x ≡ written w
+          unfolding slaveWritten
+          as-written = to-slave ∙ ap (λ (z : Turn). written z) (sym ew)
+
+          pub wrote-slave : w .status ≡ 0
+              → (k : ℕ) → k ≡ joinedOf (b .intp) (w .icu) (b .slaveintp)
+              → (d : Wired) → d ≡ wiredTo (b .icu) (linesAt j (b .timer)) k (b .timer)
+              → Turned b r m (icu-is (d .icu) (slave-is (w .icu) (b .slaveintp) b)) m k (d .levels) (plainly 0 (d .levels))
+          wrote-slave z k ek d ed =
+              follows 0 0 (twelve []) (slave-is (w .icu) (b .slaveintp) b) k ek (wrote ∙ as-written ∙ rw (eq-eqb _ _ z)) wrote-none d ed
+
+          pub refused-slave : (w .status ≡ 0 → ⊥) → Turned b r m b m j l (plainly (w .status) l)
+          refused-slave z = wrote-nothing (w .status) (as-written ∙ rw (ne-eqb _ _ z))
 
       module _ (p : ℕ) (v : o ≡ Read p) where
         looked : executeOf b o m ≡ readOf b p
@@ -192,15 +232,16 @@ module _ (b : Board) (r m : List ℕ) (l : ℕ) (el : l ≡ levelsOf b) where
           to-icu = rw (eq-eqb _ _ q)
 
         pub read-icu : p / 16 ≡ 0
-            → (x : ℕ) → x ≡ lines b → (w : Turn) → w ≡ turnOf (IcuService.readOf (b .icu) (a0 p) x)
-            → Turned b r m b m l (answerOf (w .status) (byte r 0) (w .byte) l (w .payload))
+            → (x : ℕ) → x ≡ linesAt j (b .timer) → (w : Turn) → w ≡ turnOf (IcuService.readOf (b .icu) (a0 p) x)
+            → Turned b r m b m j l (answerOf (w .status) (byte r 0) (w .byte) l (w .payload))
         read-icu q x ex w ew =
             let t = icuShown b (a0 p) in
-            carried (record { status = w .status; board = b; byte = w .byte; payload = w .payload }) m l
+            carried (record { status = w .status; board = b; byte = w .byte; payload = w .payload }) m j l
             (looked ∙ to-icu q
             ∙ ap (λ (z : Icu). record { status = t .status; board = icu-is z b; byte = t .byte; payload = twelve (t .payload) }) (read-leaves (b .icu) (a0 p) (lines b))
-            ∙ ap (λ (z : Turn). record { status = z .status; board = b; byte = z .byte; payload = z .payload }) (sym (ew ∙ ap (λ (z : ℕ). turnOf (IcuService.readOf (b .icu) (a0 p) z)) ex)))
+            ∙ ap (λ (z : Turn). record { status = z .status; board = b; byte = z .byte; payload = z .payload }) (sym (ew ∙ ap (λ (z : ℕ). turnOf (IcuService.readOf (b .icu) (a0 p) z)) (ex ∙ ap (λ (z : ℕ). linesAt z (b .timer)) ej))))
             looked-none
+            ej
             el
 
         same-levels : (n : ℕ) (s : TimerSeen.Seen)
@@ -211,76 +252,137 @@ module _ (b : Board) (r m : List ℕ) (l : ℕ) (el : l ≡ levelsOf b) where
         pub read-timer : (q₀ : p / 16 ≡ 0 → ⊥) (q₁ : p / 16 ≡ 1) (q₃ : eqb (p % 4) 3 ≡ false)
             → (n : ℕ) → n ≡ p % 4 % 3
             → (s : TimerSeen.Seen) → s ≡ seenOf (at (b .timer) n)
-            → Turned b r m (timer-is (counter-is n (back (at (b .timer) n) s .counter) (b .timer)) b) m l (answerOf (s .status) (byte r 0) (s .byte) l (twelve []))
+            → Turned b r m (timer-is (counter-is n (back (at (b .timer) n) s .counter) (b .timer)) b) m j l (answerOf (s .status) (byte r 0) (s .byte) l (twelve []))
         unfolding readOf timerShown
         read-timer q₀ q₁ q₃ n is s es =
             let low = eqb-false (p % 4) 3 q₃ in
             let en : n ≡ p % 4 = omega (arith, is, low) in
             let t′ = counter-is n (back (at (b .timer) n) s .counter) (b .timer) in
-            carried (record { status = s .status; board = timer-is t′ b; byte = s .byte; payload = twelve [] }) m l
+            carried (record { status = s .status; board = timer-is t′ b; byte = s .byte; payload = twelve [] }) m j l
             (looked
             ∙ rw (ne-eqb _ _ q₀, eq-eqb _ _ q₁, got-seen (b .timer) p n en q₃ s es)
             (shown-as b (s .status) (timer-is t′ b) (s .byte) (eqb (s .status) 0) refl
             (λ z. (ap (λ (k : Timer). timer-is k b) (none-changed (b .timer) p n en q₃ s es z), none-shown (b .timer) p n en q₃ s es z))))
             looked-none
+            ej
             (el ∙ same-levels n s)
 
-        pub read-dma : (q₀ : p / 16 ≡ 0 → ⊥) (q₁ : p / 16 ≡ 1 → ⊥)
+        pub read-slave : (q₀ : p / 16 ≡ 0 → ⊥) (q₁ : p / 16 ≡ 1 → ⊥) (q₂ : p / 16 ≡ 2 → ⊥)
+            → (w : Turn) → w ≡ turnOf (IcuService.readOf (b .slave) (a0 p) (b .slaveintp))
+            → Turned b r m b m j l (answerOf (w .status) (byte r 0) (w .byte) l (w .payload))
+        unfolding readOf slaveShown
+        read-slave q₀ q₁ q₂ w ew =
+            carried (record { status = w .status; board = b; byte = w .byte; payload = w .payload }) m j l
+            (looked
+            ∙ rw (ne-eqb _ _ q₀, ne-eqb _ _ q₁, ne-eqb _ _ q₂)
+            (ap (λ (z : Turn). record { status = z .status; board = b; byte = z .byte; payload = z .payload }) (sym ew)))
+            looked-none ej el
+
+        pub read-dma : (q₀ : p / 16 ≡ 0 → ⊥) (q₁ : p / 16 ≡ 1 → ⊥) (q₂ : p / 16 ≡ 2)
             → (s : DmaSeen.Seen) → s ≡ DmaRegisters.seenOf (b .dma) p
-            → Turned b r m (dma-is (DmaLooks.back (b .dma) s .dma) b) m l (answerOf (s .status) (byte r 0) (s .byte) l (twelve []))
+            → Turned b r m (dma-is (DmaLooks.back (b .dma) s .dma) b) m j l (answerOf (s .status) (byte r 0) (s .byte) l (twelve []))
         unfolding readOf dmaShown levelsOf
-        read-dma q₀ q₁ s es =
+        read-dma q₀ q₁ q₂ s es =
             let d = b .dma in
             let g = DmaRegisters.readOf d p in
             let e = DmaLooks.put-back d p s es in
-            carried (record { status = s .status; board = dma-is (DmaLooks.back d s .dma) b; byte = s .byte; payload = twelve [] }) m l
+            carried (record { status = s .status; board = dma-is (DmaLooks.back d s .dma) b; byte = s .byte; payload = twelve [] }) m j l
             (looked
-            ∙ rw (ne-eqb _ _ q₀, ne-eqb _ _ q₁, ← e)
+            ∙ rw (ne-eqb _ _ q₀, ne-eqb _ _ q₁, eq-eqb _ _ q₂, ← e)
             (shown-as b (s .status) (dma-is (DmaLooks.back d s .dma) b) (s .byte) (eqb (s .status) 0) refl
             (λ z.
             let u = e ∙ DmaLooks.unread-leaves d p (ap (λ (k : Got). eqb (k .status) 0) (sym e) ∙ z) in
             (ap (λ (k : Got). dma-is (k .dma) b) u, ap (λ (k : Got). k .byte) u))))
             looked-none
+            ej
             el
 
       -- other lines, or other gates: the interrupt chip sees what changed
-      pub intp : (x : ℕ) → o ≡ Intp x → (d : Wired) → d ≡ wiredTo (b .icu) (lines b) x (b .timer)
-          → Turned b r m (record { icu = d .icu; intp = x; timer = b .timer; dma = b .dma; kept = b .kept }) m (d .levels) (plainly 0 (d .levels))
-      unfolding executeOf memoryAfter rewired levelsOf
-      intp x v d ed =
-          rw ed (carried (done (rewired x (b .timer) b)) m _ (ap (λ (k : Operation). executeOf b k m) v) (ap (λ (k : Operation). memoryAfter b k m) v) refl)
+      pub intp : (x : ℕ) → o ≡ Intp x → (k : ℕ) → k ≡ joinedOf x (b .slave) (b .slaveintp)
+          → (d : Wired) → d ≡ wiredTo (b .icu) (linesAt j (b .timer)) k (b .timer)
+          → Turned b r m (icu-is (d .icu) (intp-is x b)) m k (d .levels) (plainly 0 (d .levels))
+      unfolding executeOf memoryAfter
+      intp x v k ek d ed =
+          follows 0 0 (twelve []) (intp-is x b) k ek (ap (λ (z : Operation). executeOf b z m) v) (ap (λ (z : Operation). memoryAfter b z m) v) d ed
 
-      pub gates : (x : ℕ) → o ≡ Gates x → (t : Timer) → t ≡ gatesOf (b .timer) x → (d : Wired) → d ≡ wiredTo (b .icu) (lines b) (b .intp) t
-          → Turned b r m (record { icu = d .icu; intp = b .intp; timer = t; dma = b .dma; kept = b .kept }) m (d .levels) (plainly 0 (d .levels))
-      unfolding executeOf memoryAfter rewired levelsOf
+      pub gates : (x : ℕ) → o ≡ Gates x → (t : Timer) → t ≡ gatesOf (b .timer) x → (d : Wired) → d ≡ wiredTo (b .icu) (linesAt j (b .timer)) j t
+          → Turned b r m (icu-is (d .icu) (timer-is t b)) m j (d .levels) (plainly 0 (d .levels))
+      unfolding executeOf memoryAfter
       gates x v t et d ed =
-          rw (ed, et) (carried (done (rewired (b .intp) (gatesOf (b .timer) x) b)) m _ (ap (λ (k : Operation). executeOf b k m) v) (ap (λ (k : Operation). memoryAfter b k m) v) refl)
+          follows 0 0 (twelve []) (timer-is t b) j ej
+          (ap (λ (z : Operation). executeOf b z m) v ∙ ap (λ (z : Timer). done (followed b (timer-is z b))) (sym et)) (ap (λ (z : Operation). memoryAfter b z m) v) d ed
 
-      pub requests : (x : ℕ) → o ≡ Requests x → (d : Dma) → d ≡ DmaRegisters.requestedOf (b .dma) x → Turned b r m (dma-is d b) m l (plainly 0 l)
+      pub requests : (x : ℕ) → o ≡ Requests x → (d : Dma) → d ≡ DmaRegisters.requestedOf (b .dma) x → Turned b r m (dma-is d b) m j l (plainly 0 l)
       unfolding executeOf memoryAfter levelsOf
       requests x v d ed =
-          carried (done (dma-is d b)) m l
-          (ap (λ (k : Operation). executeOf b k m) v ∙ ap (λ (z : Dma). done (dma-is z b)) (sym ed)) (ap (λ (k : Operation). memoryAfter b k m) v) el
+          carried (done (dma-is d b)) m j l
+          (ap (λ (k : Operation). executeOf b k m) v ∙ ap (λ (z : Dma). done (dma-is z b)) (sym ed)) (ap (λ (k : Operation). memoryAfter b k m) v) ej el
 
-      pub acknowledge : o ≡ Acknowledge
-          → (x : ℕ) → x ≡ lines b → (w : Turn) (n : ℕ) → w ≡ turnOf (IcuService.acknowledgeOf (b .icu) x) → n ≡ levelsAt (w .icu) (b .intp) (b .timer)
-          → Turned b r m (icu-is (w .icu) b) m n (answerOf (w .status) (byte r 0) (w .byte) n (w .payload))
+      pub slave-intp : (x : ℕ) → o ≡ SlaveIntp x → (s : Icu) → s ≡ linesOf (b .slave) (b .slaveintp) x
+          → (k : ℕ) → k ≡ joinedOf (b .intp) s x
+          → (d : Wired) → d ≡ wiredTo (b .icu) (linesAt j (b .timer)) k (b .timer)
+          → Turned b r m (icu-is (d .icu) (slave-is s x b)) m k (d .levels) (plainly 0 (d .levels))
       unfolding executeOf memoryAfter
-      acknowledge v x ex w n ew =
-          turned-icu (acknowledged b) (ap (λ (k : Operation). executeOf b k m) v) (ap (λ (k : Operation). memoryAfter b k m) v) w n
-          (ew ∙ ap (λ (z : ℕ). turnOf (IcuService.acknowledgeOf (b .icu) z)) ex)
+      slave-intp x v s es k ek d ed =
+          follows 0 0 (twelve []) (slave-is s x b) k ek
+          (ap (λ (z : Operation). executeOf b z m) v ∙ ap (λ (z : Icu). done (followed b (slave-is z x b))) (sym es)) (ap (λ (z : Operation). memoryAfter b z m) v) d ed
+
+      module _ (v : o ≡ Acknowledge) (x : ℕ) (ex : x ≡ linesAt j (b .timer)) where
+        asks : executeOf b o m ≡ acknowledgeOf b
+        unfolding executeOf
+        asks = ap (λ (k : Operation). executeOf b k m) v
+
+        asks-none : memoryAfter b o m ≡ m
+        unfolding memoryAfter
+        asks-none = ap (λ (k : Operation). memoryAfter b k m) v
+
+        as-lines : x ≡ lines b
+        as-lines = ex ∙ ap (λ (z : ℕ). linesAt z (b .timer)) ej
+
+        as-passed : (q : Bool) → passedOn (b .icu) x (b .slave) ≡ q → passedOn (b .icu) (lines b) (b .slave) ≡ q
+        as-passed q h = ap (λ (z : ℕ). passedOn (b .icu) z (b .slave)) (sym as-lines) ∙ h
+
+        -- level 7, passed on to the slave
+        pub passed-on : passedOn (b .icu) x (b .slave) ≡ true
+            → (w : Turn) → w ≡ turnOf (IcuService.acknowledgeOf (b .slave) (b .slaveintp))
+            → (k : ℕ) → k ≡ joinedOf (b .intp) (w .icu) (b .slaveintp)
+            → (c : Icu) → c ≡ IcuService.servedOf (b .icu) 7
+            → (d : Wired) → d ≡ wiredTo c (linesAt j (b .timer)) k (b .timer)
+            → Turned b r m (icu-is (d .icu) (slave-is (w .icu) (b .slaveintp) b)) m k (d .levels) (answerOf (w .status) (byte r 0) (w .byte) (d .levels) (w .payload))
+        unfolding acknowledgeOf slaveGives
+        passed-on h w ew k ek c ec d ed =
+            follows (w .status) (w .byte) (w .payload) (slave-is (w .icu) (b .slaveintp) (icu-is c b)) k ek
+            (asks ∙ rw (as-passed true h)
+            (ap (λ (z : Turn). record { status = z .status; board = followed b (slave-is (z .icu) (b .slaveintp) (icu-is (IcuService.servedOf (b .icu) 7) b)); byte = z .byte; payload = z .payload }) (sym ew)
+            ∙ ap (λ (z : Icu). record { status = w .status; board = followed b (slave-is (w .icu) (b .slaveintp) (icu-is z b)); byte = w .byte; payload = w .payload }) (sym ec)))
+            asks-none d ed
+
+        -- any other that is answered, by the master alone
+        pub acknowledge : passedOn (b .icu) x (b .slave) ≡ false → answered (b .icu) (b .slave) ≡ true
+            → (w : Turn) (n : ℕ) → w ≡ turnOf (IcuService.acknowledgeOf (b .icu) x) → n ≡ levelsAt (w .icu) j (b .timer)
+            → Turned b r m (icu-is (w .icu) b) m j n (answerOf (w .status) (byte r 0) (w .byte) n (w .payload))
+        unfolding acknowledgeOf
+        acknowledge h g w n ew =
+            turned-icu (acknowledged b) (asks ∙ rw (as-passed false h, g)) asks-none w n
+            (ew ∙ ap (λ (z : ℕ). turnOf (IcuService.acknowledgeOf (b .icu) z)) as-lines)
+
+        pub unanswered : passedOn (b .icu) x (b .slave) ≡ false → answered (b .icu) (b .slave) ≡ false → Turned b r m b m j l (plainly 3 l)
+        unfolding acknowledgeOf
+        unanswered h g = carried (refused 3 b) m j l (asks ∙ rw (as-passed false h, g)) asks-none ej el
 
       pub advance : (k : ℕ) → o ≡ Advance k
-          → (a : Run) (n : ℕ) (p : List ℕ) → a ≡ advancedOf (b .intp) (b .timer) (b .icu) k → n ≡ levelsAt (a .icu) (b .intp) (a .timer)
+          → (a : Run) (n : ℕ) (p : List ℕ) → a ≡ advancedOf j (b .timer) (b .icu) k → n ≡ levelsAt (a .icu) j (a .timer)
           → p ≡ twelve (risesPayload (a .rises))
-          → Turned b r m (record { icu = a .icu; intp = b .intp; timer = a .timer; dma = b .dma; kept = b .kept }) m n (answerOf 0 (byte r 0) 0 n p)
+          → Turned b r m (icu-is (a .icu) (timer-is (a .timer) b)) m j n (answerOf 0 (byte r 0) 0 n p)
       unfolding executeOf memoryAfter advanceOf levelsOf
       advance k v a n p ea en ep =
           rw ep
-          (carried (record { status = 0; board = record { icu = a .icu; intp = b .intp; timer = a .timer; dma = b .dma; kept = b .kept }; byte = 0; payload = twelve (risesPayload (a .rises)) }) m n
+          (carried (record { status = 0; board = icu-is (a .icu) (timer-is (a .timer) b); byte = 0; payload = twelve (risesPayload (a .rises)) }) m j n
           (ap (λ (z : Operation). executeOf b z m) v
-          ∙ ap (λ (z : Run). record { status = 0; board = record { icu = z .icu; intp = b .intp; timer = z .timer; dma = b .dma; kept = b .kept }; byte = 0; payload = twelve (risesPayload (z .rises)) }) (sym ea))
-          (ap (λ (z : Operation). memoryAfter b z m) v) en)
+          ∙ ap (λ (z : Run). record { status = 0; board = icu-is (z .icu) (timer-is (z .timer) b); byte = 0; payload = twelve (risesPayload (z .rises)) })
+          (sym (ea ∙ ap (λ (z : ℕ). advancedOf z (b .timer) (b .icu) k) ej)))
+          (ap (λ (z : Operation). memoryAfter b z m) v) ej
+          (en ∙ ap (λ (z : ℕ). levelsAt (a .icu) z (a .timer)) ej))
 
       -- a DMA cycle by what it reports
       pub cycle : (e : Bool) (x : ℕ) → o ≡ Cycle e x
@@ -288,14 +390,14 @@ module _ (b : Board) (r m : List ℕ) (l : ℕ) (el : l ≡ levelsOf b) where
           → record { dma = d; memory = m′; report = t } ≡ DmaCycle.cycleOf (b .dma) e x m
           → k ≡ t .byte
           → p ≡ twelve (payloadOf t)
-          → Turned b r m (dma-is d b) m′ l (answerOf 0 (byte r 0) k l p)
+          → Turned b r m (dma-is d b) m′ j l (answerOf 0 (byte r 0) k l p)
       unfolding executeOf memoryAfter cycleOf cycleMemory levelsOf
       cycle e x v d t m′ p k ec ek ep =
           rw (ek, ep)
-          (carried (record { status = 0; board = dma-is d b; byte = t .byte; payload = twelve (payloadOf t) }) m′ l
+          (carried (record { status = 0; board = dma-is d b; byte = t .byte; payload = twelve (payloadOf t) }) m′ j l
           (ap (λ (z : Operation). executeOf b z m) v
           ∙ ap (λ (z : DmaCycle.Out). record { status = 0; board = dma-is (z .dma) b; byte = z .report .byte; payload = twelve (payloadOf (z .report)) }) (sym ec))
-          (ap (λ (z : Operation). memoryAfter b z m) v ∙ ap (λ (z : DmaCycle.Out). z .memory) (sym ec)) el)
+          (ap (λ (z : Operation). memoryAfter b z m) v ∙ ap (λ (z : DmaCycle.Out). z .memory) (sym ec)) ej el)
 
       pub cycle-by-call : (e : Bool) (x : ℕ) → o ≡ Cycle e x
           → (d : Dma) (report : Report) (m′ p : List ℕ) (k : ℕ)
@@ -304,7 +406,7 @@ module _ (b : Board) (r m : List ℕ) (l : ℕ) (el : l ≡ levelsOf b) where
           → m′ ≡ DmaCycle.cycleOf (b .dma) e x m .memory
           → k ≡ told report .byte
           → p ≡ twelve (payloadOf (told report))
-          → Turned b r m (dma-is d b) m′ l (answerOf 0 (byte r 0) k l p)
+          → Turned b r m (dma-is d b) m′ j l (answerOf 0 (byte r 0) k l p)
       cycle-by-call e x v d report m′ p k ed et em ek ep =
           cycle e x v d (told report) m′ p k (rw (ed, et, em)) ek ep
 
@@ -317,7 +419,7 @@ module _ (b : Board) (r m : List ℕ) (l : ℕ) (el : l ≡ levelsOf b) where
           → m′ ≡ DmaCycle.memoryOf c m x
           → k ≡ DmaCycle.byteOf c m x
           → p ≡ twelve (2 ∷ b .dma .channel ∷ flagOf false ∷ flagOf false ∷ littleOf (c .current .address))
-          → Turned b r m (dma-is (channels-are (set (b .dma .channels) (b .dma .channel % 4) c′) (b .dma)) b) m′ l (answerOf 0 (byte r 0) k l p)
+          → Turned b r m (dma-is (channels-are (set (b .dma .channels) (b .dma .channel % 4) c′) (b .dma)) b) m′ j l (answerOf 0 (byte r 0) k l p)
       plain-unit e x v h c′ m′ p k ec em ek ep =
           let c = chan (b .dma) (b .dma .channel % 4) in
           cycle e x v _ (moved (b .dma .channel) false false (c .current .address) (DmaCycle.byteOf c m x)) m′ p k

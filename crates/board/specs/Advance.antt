@@ -1,4 +1,4 @@
--- An advance: the pulses of the one clock, one by one.
+-- An advance: the pulses of the one clock, one by one. No pulse moves a line of the slave, so line 7 stays as it is.
 use Prim.Native.Nat.{ℕ, zero, suc, _+_}
 use mathlib.Core.List.{List, [], _∷_, _++_}
 use lib.ListN.{getD}
@@ -11,7 +11,7 @@ use Rattle.timer.specs.Timer.{at, pulsesOf}
 use Rattle.board.specs.declared.Board.{Board}
 use Rattle.board.specs.Operations.{Outcome}
 use Rattle.board.specs.declared.Run.{Run}
-use Rattle.board.specs.Wiring.{linesAt}
+use Rattle.board.specs.Wiring.{icu-is, timer-is, linesAt, joined}
 
 -- Counter n's rises with one pulse more.
 abbrev pub roseOf : Run → ℕ → ℕ
@@ -36,13 +36,13 @@ abbrev pub risesPayload : List ℕ → List ℕ
 risesPayload rises = littleOf (getD rises 0 0) ++ littleOf (getD rises 1 0) ++ littleOf (getD rises 2 0)
 
 abbrev pub run : Board → ℕ → Run
-run b n = advancedOf (b .intp) (b .timer) (b .icu) n
+run b n = advancedOf (joined b) (b .timer) (b .icu) n
 
 unfoldable pub advanceOf : Board → ℕ → Outcome
 advanceOf b n =
     record {
       status = 0;
-      board = record { icu = run b n .icu; intp = b .intp; timer = run b n .timer; dma = b .dma; kept = b .kept };
+      board = icu-is (run b n .icu) (timer-is (run b n .timer) b);
       byte = 0;
       payload = twelve (risesPayload (run b n .rises));
     }

@@ -4,7 +4,7 @@ use mathlib.Core.Bool.{Bool}
 use mathlib.Core.List.{List}
 use Rattle.bits.specs.Choice.{if_then_else_, _and_}
 use Rattle.tape.specs.declared.Operation.{Operation}
-use Rattle.tape.specs.declared.Operation.the-variants.{Reset, Write, Read, Intp, Gates, Requests, Acknowledge, Advance, Cycle}
+use Rattle.tape.specs.declared.Operation.the-variants.{Reset, Write, Read, Intp, Gates, Requests, SlaveIntp, Acknowledge, Advance, Cycle}
 use Rattle.tape.specs.declared.Decoded.{Decoded}
 use Rattle.tape.specs.declared.Decoded.the-variants.{Asked, Malformed}
 use Rattle.tape.specs.Records.{byte, decodeOf, usesBus}
@@ -13,8 +13,8 @@ use Rattle.timer.specs.Timer.{gatesOf}
 use Rattle.dma.specs.Registers.{requestedOf}
 use Rattle.board.specs.declared.Board.{Board}
 use Rattle.board.specs.declared.Stepped.{Stepped}
-use Rattle.board.specs.Wiring.{dma-is, resetOf, rewired, levelsOf}
-use Rattle.board.specs.Operations.{Outcome, done, refused, icuTold, acknowledged, writeOf, readOf, cycleOf, cycleMemory}
+use Rattle.board.specs.Wiring.{intp-is, timer-is, dma-is, resetOf, followed, levelsOf}
+use Rattle.board.specs.Operations.{Outcome, done, refused, slaveLines, acknowledgeOf, writeOf, readOf, cycleOf, cycleMemory}
 use Rattle.board.specs.Advance.{advanceOf}
 
 -- An operation that is carried out. Lines that change do so all at once.
@@ -22,10 +22,11 @@ unfoldable pub executeOf : Board → Operation → List ℕ → Outcome
 executeOf b Reset m = done (resetOf b)
 executeOf b (Write p x) m = writeOf b p x
 executeOf b (Read p) m = readOf b p
-executeOf b (Intp levels) m = done (rewired levels (b .timer) b)
-executeOf b (Gates levels) m = done (rewired (b .intp) (gatesOf (b .timer) levels) b)
+executeOf b (Intp levels) m = done (followed b (intp-is levels b))
+executeOf b (Gates levels) m = done (followed b (timer-is (gatesOf (b .timer) levels) b))
 executeOf b (Requests levels) m = done (dma-is (requestedOf (b .dma) levels) b)
-executeOf b Acknowledge m = icuTold b (acknowledged b)
+executeOf b (SlaveIntp levels) m = done (followed b (slaveLines b levels))
+executeOf b Acknowledge m = acknowledgeOf b
 executeOf b (Advance n) m = advanceOf b n
 executeOf b (Cycle end x) m = cycleOf b end x m
 
@@ -38,6 +39,7 @@ memoryAfter b (Read p) m = m
 memoryAfter b (Intp levels) m = m
 memoryAfter b (Gates levels) m = m
 memoryAfter b (Requests levels) m = m
+memoryAfter b (SlaveIntp levels) m = m
 memoryAfter b Acknowledge m = m
 memoryAfter b (Advance n) m = m
 

@@ -1,4 +1,4 @@
--- The wiring of the board: OUT0 is INTP0, and every change of it reaches the interrupt chip.
+-- The wiring of the board: OUT0 is INTP0, the slave's INT is joined to INTP7, and every change of these lines reaches the interrupt chip, the master.
 use Prim.Native.Nat.{ℕ, _+_}
 use mathlib.Core.Bool.{Bool}
 use mathlib.Core.List.{[], _∷_}
@@ -7,6 +7,7 @@ use Rattle.bits.specs.Bits.{withOf, withoutOf}
 use Rattle.icu.specs.declared.Icu.{Icu}
 use Rattle.icu.specs.Words as IcuWords
 use Rattle.icu.specs.Requests.{intOf, linesOf}
+use Rattle.cascade.specs.Cascade.{joinedOf, follows}
 use Rattle.timer.specs.declared.Timer.{Timer}
 use Rattle.timer.specs.Timer.{at, resetsOf, outsOf}
 use Rattle.dma.specs.declared.Dma.{Dma}
@@ -15,20 +16,39 @@ use Rattle.board.specs.declared.Kept.{Kept}
 use Rattle.board.specs.declared.Board.{Board}
 use Rattle.board.specs.declared.Wired.{Wired}
 
--- A board with another interrupt chip, another timer, another DMA chip.
+-- A board with another interrupt chip, other INTP levels, another slave with its lines, another timer, another DMA chip.
 abbrev pub icu-is : Icu → Board → Board
-icu-is c b = record { icu = c; intp = b .intp; timer = b .timer; dma = b .dma; kept = b .kept }
+icu-is c b =
+    record { icu = c; intp = b .intp; slave = b .slave; slaveintp = b .slaveintp; timer = b .timer; dma = b .dma; kept = b .kept }
+
+abbrev pub intp-is : ℕ → Board → Board
+intp-is x b =
+    record { icu = b .icu; intp = x; slave = b .slave; slaveintp = b .slaveintp; timer = b .timer; dma = b .dma; kept = b .kept }
+
+abbrev pub slave-is : Icu → ℕ → Board → Board
+slave-is s x b =
+    record { icu = b .icu; intp = b .intp; slave = s; slaveintp = x; timer = b .timer; dma = b .dma; kept = b .kept }
 
 abbrev pub timer-is : Timer → Board → Board
-timer-is t b = record { icu = b .icu; intp = b .intp; timer = t; dma = b .dma; kept = b .kept }
+timer-is t b =
+    record { icu = b .icu; intp = b .intp; slave = b .slave; slaveintp = b .slaveintp; timer = t; dma = b .dma; kept = b .kept }
 
 abbrev pub dma-is : Dma → Board → Board
-dma-is d b = record { icu = b .icu; intp = b .intp; timer = b .timer; dma = d; kept = b .kept }
+dma-is d b =
+    record { icu = b .icu; intp = b .intp; slave = b .slave; slaveintp = b .slaveintp; timer = b .timer; dma = d; kept = b .kept }
 
--- Reset: each chip as after its own reset, INTP and the DMA requests low. The bytes of a cut record stay.
+-- Reset: each chip as after its own reset, INTP, the slave's lines and the DMA requests low. The bytes of a cut record stay.
 abbrev pub resetOf : Board → Board
 resetOf b =
-    record { icu = IcuWords.resetOf; intp = 0; timer = resetsOf; dma = DmaRegisters.resetOf; kept = b .kept }
+    record {
+      icu = IcuWords.resetOf;
+      intp = 0;
+      slave = IcuWords.resetOf;
+      slaveintp = 0;
+      timer = resetsOf;
+      dma = DmaRegisters.resetOf;
+      kept = b .kept;
+    }
 
 abbrev pub nothingKept : Kept
 nothingKept = record { bytes = 0 ∷ 0 ∷ 0 ∷ 0 ∷ 0 ∷ 0 ∷ 0 ∷ []; length = 0 }
@@ -36,35 +56,45 @@ nothingKept = record { bytes = 0 ∷ 0 ∷ 0 ∷ 0 ∷ 0 ∷ 0 ∷ 0 ∷ []; len
 -- A board that was never fed.
 unfoldable pub freshOf : Board
 freshOf =
-    record { icu = IcuWords.resetOf; intp = 0; timer = resetsOf; dma = DmaRegisters.resetOf; kept = nothingKept }
+    record {
+      icu = IcuWords.resetOf;
+      intp = 0;
+      slave = IcuWords.resetOf;
+      slaveintp = 0;
+      timer = resetsOf;
+      dma = DmaRegisters.resetOf;
+      kept = nothingKept;
+    }
 
--- The eight lines of the interrupt chip: INTP1 to INTP7, and OUT0 as line 0.
+-- The eight lines of the interrupt chip: INTP1 to INTP7 as it has them (below), and OUT0 as line 0.
 abbrev pub linesBy : ℕ → Bool → ℕ
 linesBy intp out0 = if out0 then withOf intp 0 else withoutOf intp 0
 
 unfoldable pub linesAt : ℕ → Timer → ℕ
 linesAt intp t = linesBy intp (at t 0 .out)
 
-abbrev pub lines : Board → ℕ
-lines b = linesAt (b .intp) (b .timer)
+-- INTP as the master has them: with the slave's INT on line 7.
+abbrev pub joined : Board → ℕ
+joined b = joinedOf (b .intp) (b .slave) (b .slaveintp)
 
--- The levels that an answer shows: OUT0 to OUT2 in bits 0 to 2, INT in bit 3.
+abbrev pub lines : Board → ℕ
+lines b = linesAt (joined b) (b .timer)
+
+-- The levels that an answer shows: OUT0 to OUT2 in bits 0 to 2, INT in bit 3. It is the master's INT.
 abbrev pub int : Board → Bool
 int b = intOf (b .icu) (lines b)
 
-unfoldable pub levelsOf : Board → ℕ
-levelsOf b = if int b then outsOf (b .timer) + 8 else outsOf (b .timer)
-
--- Other INTP levels, or another timer: the interrupt chip sees its lines go from what they were to what they are now.
-unfoldable pub rewired : ℕ → Timer → Board → Board
-rewired intp t b =
-    record { icu = linesOf (b .icu) (lines b) (linesAt intp t); intp = intp; timer = t; dma = b .dma; kept = b .kept }
-
--- The levels by what they are worked out from. The DMA chip and the kept bytes have no part in them, so a fresh board's stand there.
 abbrev pub levelsAt : Icu → ℕ → Timer → ℕ
-levelsAt c intp t = levelsOf (record { icu = c; intp = intp; timer = t; dma = DmaRegisters.resetOf; kept = nothingKept })
+levelsAt c intp t = if intOf c (linesAt intp t) then outsOf t + 8 else outsOf t
 
--- What `rewired` does to the interrupt chip, without the board: the chip after the change, and the levels.
+unfoldable pub levelsOf : Board → ℕ
+levelsOf b = levelsAt (b .icu) (joined b) (b .timer)
+
+-- The record has made d of the board b, and the master has yet to see its lines: they go from those of b to those of d, once. (An advance does this at each pulse: Advance.antt.)
+abbrev pub followed : Board → Board → Board
+followed b d = icu-is (follows (d .icu) (lines b) (lines d)) d
+
+-- What `followed` does to the interrupt chip, without the board: the chip after the change, and the levels.
 abbrev pub wiredTo : Icu → ℕ → ℕ → Timer → Wired
 wiredTo c was intp t =
     record { icu = linesOf c was (linesAt intp t); levels = levelsAt (linesOf c was (linesAt intp t)) intp t }

@@ -1,4 +1,4 @@
-// The board: the three chips and their wiring, and what each record of a tape does to them.
+// The board: the chips and their wiring, and what each record of a tape does to them.
 ghost use mathlib.Core.Path.{_≡_};
 ghost use mathlib.Core.Bool.{Bool, not};
 ghost use mathlib.Core.List.{_++_, _∷_, []};
@@ -11,6 +11,7 @@ ghost use Rattle.icu.specs.declared.Icu.{Icu};
 ghost use Rattle.icu.specs.Words as IcuWords;
 ghost use Rattle.icu.specs.Service as IcuService;
 ghost use Rattle.icu.specs.Requests.{linesOf};
+ghost use Rattle.cascade.specs.Cascade.{joinedOf};
 ghost use Rattle.tape.specs.Records.{heldOf, usesBus};
 ghost use Rattle.tape.specs.Answers.{twelve, littleOf, answerOf};
 ghost use Rattle.dma.specs.Report.{told};
@@ -38,15 +39,19 @@ pub struct Kept {
 
 #[repr(C)]
 pub struct Board {
+    // the master
     pub icu: Icu,
     // the levels of INTP1 to INTP7; INTP0 is OUT0, and no bit of this
     pub intp: u8,
+    // the slave, whose INT is joined to INTP7, and the levels of its own INTP0 to INTP7
+    pub slave: Icu,
+    pub slaveintp: u8,
     pub timer: Timer,
     pub dma: Dma,
     pub kept: Kept,
 }
 
-// What the interrupt chip does in its turn: the chip afterwards, and the status, data and payload of its answer.
+// What an interrupt chip does in its turn: the chip afterwards, and the status, data and payload of its answer.
 pub struct Turn {
     pub icu: Icu,
     pub status: u8,
@@ -230,10 +235,10 @@ fn rewire(icu: Icu, intp: u8, timer: Timer, new_intp: u8, new_timer: Timer) -> W
     }
 }
 
-fn write_icu(icu: Icu, a0: bool, x: u8) -> Turn
-    ensures { λ r. ⌜ r ≡ turnOf (IcuWords.writeOf icu a0 x) ⌝ }
+fn write_icu(icu: Icu, iw3: u8, a0: bool, x: u8) -> Turn
+    ensures { λ r. ⌜ r ≡ turnOf (IcuWords.writeOf icu iw3 a0 x) ⌝ }
 {
-    let w = icu.write(a0, x);
+    let w = icu.write(iw3, a0, x);
     match w {
         Written::Taken(c) => {
             return Turn {
@@ -453,6 +458,8 @@ impl Board {
         Board {
             icu: Icu::reset(),
             intp: 0,
+            slave: Icu::reset(),
+            slaveintp: 0,
             timer: Timer::reset(),
             dma: Dma::reset(),
             kept: Kept {
@@ -467,8 +474,9 @@ impl Board {
         ensures { λ r. ⌜ r ≡ levelsOf self ⌝ }
     {
         let i = self.icu;
+        let s = self.slave;
         let t = self.timer;
-        levels_at(i, self.intp, t)
+        levels_at(i, cascade::join(self.intp, s, self.slaveintp), t)
     }
 
     // One record: the loop, over this record alone.
@@ -505,6 +513,10 @@ impl Board {
         let mut levels = self.levels();
         let mut icu = self.icu;
         let mut intp = self.intp;
+        let mut slave = self.slave;
+        let mut slaveintp = self.slaveintp;
+        // INTP as the master has them, with the slave's INT on line 7
+        let mut joined = cascade::join(intp, slave, slaveintp);
         let mut timer = self.timer;
         let mut dma = self.dma;
         for i in 0..k {
@@ -522,24 +534,27 @@ impl Board {
                 continue;
             }
             match o {
-                // the chips at their reset, INTP and the DMA requests low; the memory stays
+                // the chips at their reset, INTP, the slave's lines and the DMA requests low; the memory stays
                 Operation::Reset => {
                     icu = Icu::reset();
                     intp = 0;
+                    slave = Icu::reset();
+                    slaveintp = 0;
+                    joined = 0;
                     timer = Timer::reset();
                     dma = Dma::reset();
                     levels = 0;
                     tell(answers, i, 0, op, 0, levels, [0u8; 12]);
                     continue;
                 }
-                // the chip that the port's high digit names: 0 interrupt chip, 1 timer, 2 DMA chip
+                // the chip that the port's high digit names: 0 master, 1 timer, 2 DMA chip, 3 slave
                 Operation::Write(port, x) => {
                     let chip = port / 16;
                     if chip == 0 {
-                        let t = write_icu(icu, port % Icu::PORTS == 1, x);
+                        let t = write_icu(icu, cascade::MASTER_IW3, port % Icu::PORTS == 1, x);
                         let p = t.payload;
                         icu = t.icu;
-                        levels = levels_at(icu, intp, timer);
+                        levels = levels_at(icu, joined, timer);
                         tell(answers, i, t.status, op, t.byte, levels, p);
                         continue;
                     }
@@ -548,7 +563,7 @@ impl Board {
                         let w = timer.write(port, x);
                         if w.status == 0 {
                             let after = w.timer;
-                            let wired = rewire(icu, intp, timer, intp, after);
+                            let wired = rewire(icu, joined, timer, joined, after);
                             icu = wired.icu;
                             timer = after;
                             levels = wired.levels;
@@ -558,20 +573,37 @@ impl Board {
                         tell(answers, i, w.status, op, 0, levels, [0u8; 12]);
                         continue;
                     }
-                    let w = dma.write(port, x);
-                    if w.status == 0 {
-                        dma = w.dma;
+                    if chip == 2 {
+                        let w = dma.write(port, x);
+                        if w.status == 0 {
+                            dma = w.dma;
+                            tell(answers, i, 0, op, 0, levels, [0u8; 12]);
+                            continue;
+                        }
+                        tell(answers, i, w.status, op, 0, levels, [0u8; 12]);
+                        continue;
+                    }
+                    // the slave's INT may change, and line 7 with it
+                    let t = write_icu(slave, cascade::SLAVE_IW3, port % Icu::PORTS == 1, x);
+                    if t.status == 0 {
+                        let after = t.icu;
+                        let now = cascade::join(intp, after, slaveintp);
+                        let wired = rewire(icu, joined, timer, now, timer);
+                        icu = wired.icu;
+                        slave = after;
+                        joined = now;
+                        levels = wired.levels;
                         tell(answers, i, 0, op, 0, levels, [0u8; 12]);
                         continue;
                     }
-                    tell(answers, i, w.status, op, 0, levels, [0u8; 12]);
+                    tell(answers, i, t.status, op, 0, levels, [0u8; 12]);
                     continue;
                 }
                 // likewise; no level changes
                 Operation::Read(port) => {
                     let chip = port / 16;
                     if chip == 0 {
-                        let t = read_icu(icu, port % Icu::PORTS == 1, lines_at(intp, timer));
+                        let t = read_icu(icu, port % Icu::PORTS == 1, lines_at(joined, timer));
                         let p = t.payload;
                         tell(answers, i, t.status, op, t.byte, levels, p);
                         continue;
@@ -587,16 +619,24 @@ impl Board {
                         tell(answers, i, s.status, op, s.byte, levels, [0u8; 12]);
                         continue;
                     }
-                    let s = dma.look(port);
-                    dma.ends = s.ends;
-                    tell(answers, i, s.status, op, s.byte, levels, [0u8; 12]);
+                    if chip == 2 {
+                        let s = dma.look(port);
+                        dma.ends = s.ends;
+                        tell(answers, i, s.status, op, s.byte, levels, [0u8; 12]);
+                        continue;
+                    }
+                    let t = read_icu(slave, port % Icu::PORTS == 1, slaveintp);
+                    let p = t.payload;
+                    tell(answers, i, t.status, op, t.byte, levels, p);
                     continue;
                 }
                 // INTP1 to INTP7; INTP0 is OUT0
                 Operation::Intp(x) => {
-                    let wired = rewire(icu, intp, timer, x, timer);
+                    let now = cascade::join(x, slave, slaveintp);
+                    let wired = rewire(icu, joined, timer, now, timer);
                     icu = wired.icu;
                     intp = x;
+                    joined = now;
                     levels = wired.levels;
                     tell(answers, i, 0, op, 0, levels, [0u8; 12]);
                     continue;
@@ -604,7 +644,7 @@ impl Board {
                 // a gate's fall may set OUT0 high
                 Operation::Gates(x) => {
                     let after = timer.set_gates(x);
-                    let wired = rewire(icu, intp, timer, intp, after);
+                    let wired = rewire(icu, joined, timer, joined, after);
                     icu = wired.icu;
                     timer = after;
                     levels = wired.levels;
@@ -616,22 +656,54 @@ impl Board {
                     tell(answers, i, 0, op, 0, levels, [0u8; 12]);
                     continue;
                 }
-                // the interrupt chip gives the vector or the CALL
+                // the slave's own lines; its INT may change, and line 7 with it
+                Operation::SlaveIntp(x) => {
+                    let after = slave.lines(slaveintp, x);
+                    let now = cascade::join(intp, after, x);
+                    let wired = rewire(icu, joined, timer, now, timer);
+                    icu = wired.icu;
+                    slave = after;
+                    slaveintp = x;
+                    joined = now;
+                    levels = wired.levels;
+                    tell(answers, i, 0, op, 0, levels, [0u8; 12]);
+                    continue;
+                }
+                // an interrupt chip gives the vector or the CALL
                 Operation::Acknowledge => {
-                    let t = acknowledge(icu, lines_at(intp, timer));
-                    let p = t.payload;
-                    icu = t.icu;
-                    levels = levels_at(icu, intp, timer);
-                    tell(answers, i, t.status, op, t.byte, levels, p);
+                    let lines = lines_at(joined, timer);
+                    // level 7 is taken and passed on: the slave gives the bytes, and line 7 follows
+                    if cascade::is_passed_on(icu, lines, slave) {
+                        let t = acknowledge(slave, slaveintp);
+                        let p = t.payload;
+                        let after = t.icu;
+                        let now = cascade::join(intp, after, slaveintp);
+                        let wired = rewire(icu.serve(7, true), joined, timer, now, timer);
+                        icu = wired.icu;
+                        slave = after;
+                        joined = now;
+                        levels = wired.levels;
+                        tell(answers, i, t.status, op, t.byte, levels, p);
+                        continue;
+                    }
+                    if cascade::is_answered(icu, slave) {
+                        let t = acknowledge(icu, lines);
+                        let p = t.payload;
+                        icu = t.icu;
+                        levels = levels_at(icu, joined, timer);
+                        tell(answers, i, t.status, op, t.byte, levels, p);
+                        continue;
+                    }
+                    tell(answers, i, 3, op, 0, levels, [0u8; 12]);
                     continue;
                 }
                 // one clock for the three counters; OUT0 reaches the interrupt chip after each pulse
                 Operation::Advance(n) => {
-                    let a = run_pulses(timer, icu, intp, n);
+                    let a = run_pulses(timer, icu, joined, n);
                     let rises = a.rises;
                     timer = a.timer;
                     icu = a.icu;
-                    levels = levels_at(icu, intp, timer);
+                    levels = levels_at(icu, joined, timer);
                     tell(answers, i, 0, op, 0, levels, rises_payload(rises));
                     continue;
                 }
@@ -666,6 +738,8 @@ impl Board {
         Board {
             icu: icu,
             intp: intp,
+            slave: slave,
+            slaveintp: slaveintp,
             timer: timer,
             dma: dma,
             kept: waiting,

@@ -9,12 +9,15 @@ use Rattle.icu.specs.Fields.{stage-is, iw2-is, iw4-is, imr-is, isr-is, l
 use Rattle.icu.specs.Answers.{Told, done, refused}
 use Rattle.icu.specs.Ranks.{highestOf}
 
--- The stages: no IW1 yet, IW2 awaited, IW4 awaited, ready.
+-- The stages: no IW1 yet (0), IW2 awaited (1), IW3 awaited (4), IW4 awaited (2), ready (3). IW3 has the number that was free.
 abbrev pub unstarted : ℕ
 unstarted = 0
 
 abbrev pub awaits-iw2 : ℕ
 awaits-iw2 = 1
+
+abbrev pub awaits-iw3 : ℕ
+awaits-iw3 = 4
 
 abbrev pub awaits-iw4 : ℕ
 awaits-iw4 = 2
@@ -57,29 +60,41 @@ iw1 c x =
       lowest = 7;
     }
 
--- The bits of IW1: D3 level trigger, D2 address gap 4, D0 IW4 follows.
+-- The bits of IW1: D3 level trigger, D2 address gap 4, D1 single (SNGL; without it the chip is in extended mode), D0 IW4 follows.
 abbrev pub lev : Icu → Bool
 lev c = bitOf (c .iw1) 3
 
 abbrev pub ag4 : Icu → Bool
 ag4 c = bitOf (c .iw1) 2
 
+abbrev pub sngl : Icu → Bool
+sngl c = bitOf (c .iw1) 1
+
 abbrev pub i4 : Icu → Bool
 i4 c = bitOf (c .iw1) 0
 
--- IW2; then IW4 where IW1 announced it, and otherwise the chip is ready.
+-- All the words before IW4 are there: it is next where IW1 announced it, and otherwise the chip is ready.
+abbrev pub only-iw4 : Icu → Icu
+only-iw4 c = if i4 c then stage-is awaits-iw4 c else stage-is 3 c
+
+-- IW2; in extended mode IW3 is next.
 abbrev pub iw2 : Icu → ℕ → Icu
-iw2 c x = if i4 c then stage-is awaits-iw4 (iw2-is x c) else stage-is 3 (iw2-is x c)
+iw2 c x = if sngl c then only-iw4 (iw2-is x c) else stage-is awaits-iw3 (iw2-is x c)
+
+-- IW3 says how the chip is wired to others, so on a board there is one that fits it: w. The chip keeps nothing of it; another one is not built, and IW3 is still awaited.
+abbrev pub iw3 : Icu → ℕ → ℕ → Told
+iw3 c w x = if eqb x w then done (only-iw4 c) else refused 4 c
 
 -- IW4: D1 self-FI, D0 vector mode. The chip is ready.
 abbrev pub iw4 : Icu → ℕ → Icu
 iw4 c x = stage-is 3 (iw4-is (bitOf x 1) (bitOf x 0) c)
 
 -- A word at A0=1: IMR once ready, before that the word that is awaited. Before the first IW1 it is out of turn.
-unfoldable pub laterWord : Icu → ℕ → Told
-laterWord c x =
+unfoldable pub laterWord : Icu → ℕ → ℕ → Told
+laterWord c w x =
     if ready c then done (imr-is x c)
     else if eqb (c .stage) awaits-iw2 then done (iw2 c x)
+    else if eqb (c .stage) awaits-iw3 then iw3 c w x
     else if eqb (c .stage) awaits-iw4 then done (iw4 c x)
     else refused 3 c
 
@@ -123,11 +138,10 @@ commanded false true false c n = c
 unfoldable pub pfcw : Icu → ℕ → Icu
 pfcw c x = commanded (bitOf x 7) (bitOf x 6) (bitOf x 5) c (x % 8)
 
--- A write. At A0=0 a word with D4 set is IW1, at any time; only the single mode (D1) is built. Without D4 the chip must be ready, and
--- D3 tells MCW from PFCW.
-unfoldable pub writeOf : Icu → Bool → ℕ → Told
-writeOf c a0 x =
-    if a0 then laterWord c x
-    else if bitOf x 4 then (if bitOf x 1 then done (iw1 c x) else refused 4 c)
+-- A write to a chip that has to get w as its IW3. At A0=0 a word with D4 set is IW1, at any time. Without D4 the chip must be ready, and D3 tells MCW from PFCW.
+unfoldable pub writeOf : Icu → ℕ → Bool → ℕ → Told
+writeOf c w a0 x =
+    if a0 then laterWord c w x
+    else if bitOf x 4 then done (iw1 c x)
     else if ready c then (if bitOf x 3 then mcw c x else done (pfcw c x))
     else refused 3 c

@@ -1,11 +1,12 @@
-// The interrupt chip, a 71059 used alone: eight levels, one INT.
-// Not modelled: slaves (IW3), polling, the exceptional nesting mode, the buffer mode, the pins' timing.
+// The interrupt chip, a 71059: eight levels, one INT. Which others it is wired to (IW3), and what they do together, is not the chip's own
+// matter: see the crate `cascade`.
+// Not modelled: polling, the exceptional nesting mode, the bits of IW4 but two, the pins' timing.
 ghost use mathlib.Core.Path.{_≡_};
 ghost use Prim.Native.Nat.{_≤_};
 ghost use Rattle.bits.specs.Choice.{if_then_else_, _and_};
 ghost use Rattle.bits.specs.Bits.{withOf, withoutOf};
 ghost use Rattle.icu.specs.Answers.{writtenAs, gotAs, acknowledgedAs};
-ghost use Rattle.icu.specs.Words.{resetOf, iw1, laterWord, setsExceptional, mcw, finished, pfcw, writeOf};
+ghost use Rattle.icu.specs.Words.{resetOf, iw1, only-iw4, laterWord, setsExceptional, mcw, finished, pfcw, writeOf};
 ghost use Rattle.icu.specs.Ranks.{highestOf, rankOf};
 ghost use Rattle.icu.specs.Requests.{irrOf, askedOf, intOf, linesOf};
 ghost use Rattle.icu.specs.Service.{servedOf, vectorOf, callLowOf, naming, acknowledgeOf, readOf};
@@ -13,7 +14,7 @@ ghost use Rattle.icu.specs.Service.{servedOf, vectorOf, callLowOf, namin
 // What the chip holds. IRR is no field: it is the lines, or the edge requests. Neither is INT.
 #[repr(C)]
 pub struct Icu {
-    // which word A0=1 takes: none yet, IW2, IW4, or IMR when ready
+    // which word A0=1 takes: none yet, IW2, IW3, IW4, or IMR when ready
     pub stage: u8,
     // IW1 as it was written: A7-A5, 1, LEV, AG4, SNGL, I4
     pub iw1: u8,
@@ -101,6 +102,8 @@ impl Icu {
 
     pub const READY: u8 = 3;
 
+    pub const AWAITS_IW3: u8 = 4;
+
     pub fn reset() -> Icu
         ensures { λ r. ⌜ r ≡ resetOf ⌝ }
     {
@@ -138,9 +141,21 @@ impl Icu {
         }
     }
 
-    // A word at A0=1: IMR, IW2 or IW4, by what is awaited.
-    fn write_later(mut self, x: u8) -> Written
-        ensures { λ r. ⌜ writtenAs self r ≡ laterWord self x ⌝ }
+    // IW4 is next where IW1 announced it, and otherwise the chip is ready.
+    fn await_iw4(mut self) -> Icu
+        ensures { λ r. ⌜ r ≡ «only-iw4» self ⌝ }
+    {
+        if bits::bit(self.iw1, 0) {
+            self.stage = Icu::AWAITS_IW4;
+            return self;
+        }
+        self.stage = Icu::READY;
+        self
+    }
+
+    // A word at A0=1: IMR, IW2, IW3 or IW4, by what is awaited. Of IW3 the chip takes the one that fits its wiring.
+    fn write_later(mut self, iw3: u8, x: u8) -> Written
+        ensures { λ r. ⌜ writtenAs self r ≡ laterWord self iw3 x ⌝ }
     {
         if self.stage == Icu::READY {
             self.imr = x;
@@ -148,12 +163,17 @@ impl Icu {
         }
         if self.stage == Icu::AWAITS_IW2 {
             self.iw2 = x;
-            if bits::bit(self.iw1, 0) {
-                self.stage = Icu::AWAITS_IW4;
-                return Written::Taken(self);
+            if bits::bit(self.iw1, 1) {
+                return Written::Taken(self.await_iw4());
             }
-            self.stage = Icu::READY;
+            self.stage = Icu::AWAITS_IW3;
             return Written::Taken(self);
+        }
+        if self.stage == Icu::AWAITS_IW3 {
+            if x == iw3 {
+                return Written::Taken(self.await_iw4());
+            }
+            return Written::NotBuilt;
         }
         if self.stage == Icu::AWAITS_IW4 {
             self.sfi = bits::bit(x, 1);
@@ -234,18 +254,15 @@ impl Icu {
         }
     }
 
-    // A byte written at A0.
-    pub fn write(self, a0: bool, x: u8) -> Written
-        ensures { λ r. ⌜ writtenAs self r ≡ writeOf self a0 x ⌝ }
+    // A byte written at A0, to a chip that IW3 wires so.
+    pub fn write(self, iw3: u8, a0: bool, x: u8) -> Written
+        ensures { λ r. ⌜ writtenAs self r ≡ writeOf self iw3 a0 x ⌝ }
     {
         if a0 {
-            return self.write_later(x);
+            return self.write_later(iw3, x);
         }
         if bits::bit(x, 4) {
-            if bits::bit(x, 1) {
-                return Written::Taken(self.start(x));
-            }
-            return Written::NotBuilt;
+            return Written::Taken(self.start(x));
         }
         if self.stage == Icu::READY {
             if bits::bit(x, 3) {
@@ -348,7 +365,7 @@ impl Icu {
     }
 
     // The chip once level n is acknowledged, taken or not.
-    fn serve(mut self, n: u8, taken: bool) -> Icu
+    pub fn serve(mut self, n: u8, taken: bool) -> Icu
         ensures { λ r. ⌜ r ≡ (if taken then servedOf self n else self) ⌝ }
     {
         let edges = self.edges_after(n, taken);

@@ -30,7 +30,15 @@ refused b = record { status = 7; records = 0; board = b }
 -- Taken: 0, k, and the board after k records, which keeps the bytes of the cut one.
 abbrev pub keeping : List ℕ → ℕ → Board → Board
 keeping s n b =
-    record { icu = b .icu; intp = b .intp; timer = b .timer; dma = b .dma; kept = record { bytes = s; length = n } }
+    record {
+      icu = b .icu;
+      intp = b .intp;
+      slave = b .slave;
+      slaveintp = b .slaveintp;
+      timer = b .timer;
+      dma = b .dma;
+      kept = record { bytes = s; length = n };
+    }
 
 abbrev pub done : Board → List ℕ → List ℕ → ℕ → Fed
 done b t m k =

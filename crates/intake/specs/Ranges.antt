@@ -15,12 +15,12 @@ use Rattle.dma.specs.Fields.{chan}
 use Rattle.dma.specs.Registers.{unbuiltMode}
 use Rattle.board.specs.declared.Board.{Board}
 
--- The interrupt chip: four stages, eight lowest levels, and an IW1 that was taken (D4 and SNGL set) or none.
+-- An interrupt chip, master or slave: five stages, eight lowest levels, and an IW1 that was taken (D4 set) or none.
 unfoldable pub iw1Good : ℕ → Bool
-iw1Good x = eqb x 0 or (bitOf x 4 and bitOf x 1)
+iw1Good x = eqb x 0 or bitOf x 4
 
 unfoldable pub icuGood : Icu → Bool
-icuGood c = ltb (c .stage) 4 and ltb (c .lowest) 8 and iw1Good (c .iw1)
+icuGood c = ltb (c .stage) 5 and ltb (c .lowest) 8 and iw1Good (c .iw1)
 
 -- A counter: formats 0 (none yet) to 3; modes 0 to 5 and none (255).
 unfoldable pub counterGood : Counter → Bool
@@ -43,7 +43,12 @@ unfoldable pub dmaGood : Dma → Bool
 dmaGood d =
     ltb (d .selected) 4 and ltb (d .first) 4 and ltb (d .channel) 4 and ltb (d .requests) 16 and ltb (d .ends) 16 and channelsGood d
 
--- The board: at most seven kept bytes, and INTP without a bit 0.
+-- The board: at most seven kept bytes, and INTP without a bit 0. The slave's lines are any byte.
 unfoldable pub inRange : Board → Bool
 inRange b =
-    ltb (b .kept .length) 8 and eqb (b .intp % 2) 0 and icuGood (b .icu) and timerGood (b .timer) and dmaGood (b .dma)
+    ltb (b .kept .length) 8
+    and eqb (b .intp % 2) 0
+    and icuGood (b .icu)
+    and icuGood (b .slave)
+    and timerGood (b .timer)
+    and dmaGood (b .dma)

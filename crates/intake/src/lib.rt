@@ -43,23 +43,20 @@ fn rest_at(kept: [u8; 7], size: u8, tape: &[u8], i: usize) -> [u8; 7]
     [b0, b1, b2, b3, b4, b5, b6]
 }
 
-// No IW1 yet, or one that was taken: D4 and SNGL set.
+// No IW1 yet, or one that was taken: D4 is set.
 fn is_iw1_good(x: u8) -> bool
     ensures { λ r. ⌜ r ≡ iw1Good x ⌝ }
 {
     if x == 0 {
         return true;
     }
-    if bits::bit(x, 4) {
-        return bits::bit(x, 1);
-    }
-    false
+    bits::bit(x, 4)
 }
 
 fn is_icu_good(c: Icu) -> bool
     ensures { λ r. ⌜ r ≡ icuGood c ⌝ }
 {
-    if c.stage < 4 {
+    if c.stage < 5 {
         if c.lowest < 8 {
             return is_iw1_good(c.iw1);
         }
@@ -152,13 +149,17 @@ pub fn is_in_range(b: Board) -> bool
     ensures { λ r. ⌜ r ≡ inRange b ⌝ }
 {
     let c = b.icu;
+    let s = b.slave;
     let t = b.timer;
     let d = b.dma;
     if b.kept.length < 8 {
         if b.intp % 2 == 0 {
             if is_icu_good(c) {
-                if is_timer_good(t) {
-                    return is_dma_good(d);
+                if is_icu_good(s) {
+                    if is_timer_good(t) {
+                        return is_dma_good(d);
+                    }
+                    return false;
                 }
                 return false;
             }

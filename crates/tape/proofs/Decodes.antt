@@ -10,7 +10,7 @@ use lib.Dec.{eqb, ltb, leb}
 use Rattle.bits.specs.Choice.{if_then_else_, _and_, every}
 use Rattle.bits.proofs.Every.{alike}
 use Rattle.tape.specs.declared.Operation.{Operation}
-use Rattle.tape.specs.declared.Operation.the-variants.{Reset, Write, Read, Intp, Gates, Requests, Acknowledge, Advance, Cycle}
+use Rattle.tape.specs.declared.Operation.the-variants.{Reset, Write, Read, Intp, Gates, Requests, SlaveIntp, Acknowledge, Advance, Cycle}
 use Rattle.tape.specs.declared.Decoded.{Decoded}
 use Rattle.tape.specs.declared.Decoded.the-variants.{Asked, Malformed}
 use Rattle.tape.specs.Records.{byte, unused, writable, readable, linesAsked, pulseCount, askedIf, decodeOf}
@@ -24,6 +24,7 @@ pub data Decodes (r : List ℕ) : Decoded → Type 0 where
   intp : eqb (byte r 0) 3 ≡ true → eqb (byte r 2 % 2) 0 ≡ true → Decodes r (Asked (Intp (byte r 2)))
   gates : eqb (byte r 0) 3 ≡ true → ltb (byte r 2) 8 ≡ true → Decodes r (Asked (Gates (byte r 2)))
   requests : eqb (byte r 0) 3 ≡ true → ltb (byte r 2) 16 ≡ true → Decodes r (Asked (Requests (byte r 2)))
+  slave-intp : eqb (byte r 0) 3 ≡ true → Decodes r (Asked (SlaveIntp (byte r 2)))
   acknowledge : eqb (byte r 0) 4 ≡ true → Decodes r (Asked Acknowledge)
   advance : eqb (byte r 0) 5 ≡ true → leb (pulseCount r) 65535 ≡ true → Decodes r (Asked (Advance (pulseCount r)))
   cycle : eqb (byte r 0) 6 ≡ true → Decodes r (Asked (Cycle (eqb (byte r 1) 1) (byte r 2)))
@@ -49,7 +50,7 @@ module _ (r : List ℕ) where
       (λ g. either (Decodes r) (ltb (byte r 2) 8) (λ l. gates o l) (λ l. malformed))
       (λ _. either (Decodes r) (eqb (byte r 1) 2)
       (λ g. either (Decodes r) (ltb (byte r 2) 16) (λ l. requests o l) (λ l. malformed))
-      (λ _. malformed)))
+      (λ _. either (Decodes r) (eqb (byte r 1) 3) (λ g. slave-intp o) (λ _. malformed))))
 
   pub decodes : Decodes r (decodeOf r)
   unfolding decodeOf
@@ -89,6 +90,7 @@ Open (Asked (Read p)) = readable p ≡ true
 Open (Asked (Intp l)) = Unit
 Open (Asked (Gates l)) = Unit
 Open (Asked (Requests l)) = Unit
+Open (Asked (SlaveIntp l)) = Unit
 Open (Asked Acknowledge) = Unit
 Open (Asked (Advance n)) = Unit
 Open (Asked (Cycle e x)) = Unit
@@ -101,6 +103,7 @@ opened r _ (read _ h) = h
 opened r _ (intp _ _) = tt
 opened r _ (gates _ _) = tt
 opened r _ (requests _ _) = tt
+opened r _ (slave-intp _) = tt
 opened r _ (acknowledge _) = tt
 opened r _ (advance _ _) = tt
 opened r _ (cycle _) = tt

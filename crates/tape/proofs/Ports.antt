@@ -15,7 +15,7 @@ writableBy p =
     else if ltb p 32 then false
     else if eqb p 39 then false
     else if eqb p 43 then false
-    else ltb p 48
+    else ltb p 50
 
 abbrev readableBy : ℕ → Bool
 readableBy p =
@@ -24,7 +24,7 @@ readableBy p =
     else if ltb p 19 then true
     else if leb p 32 then false
     else if eqb p 39 then false
-    else ltb p 48
+    else ltb p 50
 
 pub writable-is : (p : ℕ) → p < 256 → writable p ≡ writableBy p
 unfolding writable every

@@ -6,7 +6,7 @@ ghost use lib.ListN.{length, take, getD};
 ghost use Rattle.tape.specs.Records.{heldOf, unused, writable, readable, pulseCount, linesAsked, decodeOf, usesBus};
 ghost use Rattle.tape.specs.Answers.{twelve, littleOf, answerOf};
 
-// What a record asks for. Lines come by group: INTP, gates, DMA requests.
+// What a record asks for. Lines come by group: INTP, gates, DMA requests, the slave's INTP.
 pub enum Operation {
     Reset,
     // port, data
@@ -16,6 +16,7 @@ pub enum Operation {
     Intp(u8),
     Gates(u8),
     Requests(u8),
+    SlaveIntp(u8),
     Acknowledge,
     // pulses
     Advance(u32),
@@ -43,7 +44,8 @@ const TIMER_END: u8 = 0x14;
 
 const DMA: u8 = 0x20;
 
-const DMA_END: u8 = 0x30;
+// the slave's follow the DMA chip's
+const SLAVE_END: u8 = 0x32;
 
 // ports that are not there to read, to do either with, to write
 const TIMER_CONTROL: u8 = 0x13;
@@ -171,7 +173,7 @@ pub fn is_writable(port: u8) -> bool
     if port == DMA_STATUS {
         return false;
     }
-    port < DMA_END
+    port < SLAVE_END
 }
 
 // The ports that a read may name. The DMA chip's first is not among them.
@@ -193,7 +195,7 @@ pub fn is_readable(port: u8) -> bool
     if port == DMA_GAP {
         return false;
     }
-    port < DMA_END
+    port < SLAVE_END
 }
 
 // The pulses that bytes 4 to 7 count, little end first.
@@ -203,7 +205,7 @@ fn pulses(r: [u8; 8]) -> u32
     wide(r[4]) + wide(r[5]) * 256 + wide(r[6]) * 65536 + wide(r[7]) * 16777216
 }
 
-// A group of lines at levels: bits 1-7 are INTP's, 0-2 the gates', 0-3 the DMA requests'.
+// A group of lines at levels: bits 1-7 are INTP's, 0-2 the gates', 0-3 the DMA requests', 0-7 the slave's.
 fn lines_asked(group: u8, levels: u8) -> Decoded
     ensures { λ d. ⌜ d ≡ linesAsked group levels ⌝ }
 {
@@ -224,6 +226,9 @@ fn lines_asked(group: u8, levels: u8) -> Decoded
             return Decoded::Asked(Operation::Requests(levels));
         }
         return Decoded::Malformed;
+    }
+    if group == 3 {
+        return Decoded::Asked(Operation::SlaveIntp(levels));
     }
     Decoded::Malformed
 }
@@ -313,6 +318,7 @@ impl Operation {
             Operation::Intp(_) => false,
             Operation::Gates(_) => false,
             Operation::Requests(_) => false,
+            Operation::SlaveIntp(_) => false,
             Operation::Advance(_) => false,
             Operation::Cycle(_, _) => false,
         }
