@@ -8,6 +8,7 @@ use lib.Dec.{eqb, ltb}
 use borrow.Author.Tests.{eqb-true, ltb-true, ltb-false, eq-eqb, ne-eqb, lt-ltb, le-ltb}
 use Rattle.bits.specs.Choice.{if_then_else_, _and_, _or_, every}
 use Rattle.bits.proofs.Every.{alike}
+use Rattle.icu.specs.declared.Icu.{Icu}
 use Rattle.timer.specs.declared.Counter.{Counter}
 use Rattle.timer.specs.Timer.{at}
 use Rattle.dma.specs.declared.Channel.{Channel}
@@ -16,12 +17,13 @@ use Rattle.dma.specs.Registers.{unbuiltMode}
 use Rattle.board.specs.declared.Board.{Board}
 use Rattle.intake.specs.Ranges.{iw1Good, icuGood, counterGood, timerGood, channelGood, channelsGood, dmaGood, inRange}
 use Rattle.promises.specs.Table.{among}
-use Rattle.promises.specs.Reached.{Reached, Typed}
+use Rattle.promises.specs.Reached.{Reached, TypedIcu, Typed}
 use Rattle.promises.proofs.Logic.{both-left, both-right}
 use Rattle.promises.proofs.Runs.{sound-of, reached-sound}
+use Rattle.promises.proofs.IcuKept.{Fine}
 use Rattle.promises.proofs.BoardKept.{reached-held, reached-kept}
 use Rattle.promises.proofs.Sizes.{reached-typed}
-use Rattle.exact.specs.Exact.{Has, Exactly, Both, evens, modes, Within, Exact}
+use Rattle.exact.specs.Exact.{Has, Exactly, Both, chip, iw1s, evens, modes, Within, Exact}
 use Rattle.exact.proofs.Reaches as up
 
 exactly : {f : Board → ℕ} {set : ℕ → Type 0} → ((v : ℕ) → set v → Has f v) → ((b : Board) → Reached b → set (f b)) → Exactly f set
@@ -107,22 +109,49 @@ channel-good : (c : Channel) → c .current .address < 16777216 → c .base .add
 unfolding channelGood
 channel-good c a h k = rw (lt-ltb (c .current .address) 16777216 a, lt-ltb (c .base .address) 16777216 h, unbuilt (c .mode) k)
 
+-- An interrupt chip in its ranges; and either chip of a board, by what holds of each.
+record ChipWithin (c : Icu) : Type 0 where
+  stage : c .stage < 5
+  lowest : c .lowest < 8
+  iw1 : iw1s (c .iw1) ≡ true
+
+good-chip : (c : Icu) → icuGood c ≡ true → ChipWithin c
+unfolding icuGood iw1Good
+good-chip c h =
+    let k = both-right (ltb (c .stage) 5) _ h in
+    record {
+      stage = ltb-true _ _ (both-left (ltb (c .stage) 5) _ h);
+      lowest = ltb-true _ _ (both-left (ltb (c .lowest) 8) _ k);
+      iw1 = both-right (ltb (c .lowest) 8) _ k;
+    }
+
+chip-good : (c : Icu) → c .stage < 5 → c .lowest < 8 → iw1s (c .iw1) ≡ true → icuGood c ≡ true
+unfolding icuGood iw1Good
+chip-good c s l w = rw (lt-ltb (c .stage) 5 s, lt-ltb (c .lowest) 8 l, w)
+
+of-each : (P : Icu → Type 0) (b : Board) → P (b .icu) → P (b .slave) → (n : ℕ) → P (chip n b)
+of-each P b p q n = by (eqb n 0)
+  where
+    by : (k : Bool) → P (if k then b .icu else b .slave)
+    by true = p
+    by false = q
+
 module _ (b : Board) (t : Typed b) where
   within : inRange b ≡ true → Within b
-  unfolding inRange icuGood iw1Good timerGood
+  unfolding inRange timerGood
   within h =
       let h1 = both-right (ltb (b .kept .length) 8) _ h in
       let h2 = both-right (evens (b .intp)) _ h1 in
       let h3 = both-right (icuGood (b .icu)) _ h2 in
-      let i = both-left (icuGood (b .icu)) _ h2 in
-      let i1 = both-right (ltb (b .icu .stage) 4) _ i in
-      let c = both-left (timerGood (b .timer)) _ h3 in
+      let h4 = both-right (icuGood (b .slave)) _ h3 in
+      let chips = of-each ChipWithin b (good-chip (b .icu) (both-left (icuGood (b .icu)) _ h2)) (good-chip (b .slave) (both-left (icuGood (b .slave)) _ h3)) in
+      let c = both-left (timerGood (b .timer)) _ h4 in
       let c1 = both-right (counterGood (at (b .timer) 0)) _ c in
       let d = sound-of b t h in
       record {
-        stage = ltb-true _ _ (both-left (ltb (b .icu .stage) 4) _ i);
-        iw1 = both-right (ltb (b .icu .lowest) 8) _ i1;
-        lowest = ltb-true _ _ (both-left (ltb (b .icu .lowest) 8) _ i1);
+        stage = λ n l. chips n .stage;
+        iw1 = λ n l. chips n .iw1;
+        lowest = λ n l. chips n .lowest;
         intp = both-left (evens (b .intp)) _ h1;
         mode = λ n l. counters c c1 n l .1;
         format = λ n l. counters c c1 n l .0;
@@ -148,14 +177,13 @@ module _ (b : Board) (t : Typed b) where
       counters p q (suc (suc (suc n))) l = absurd (omega arith)
 
   passes : Within b → inRange b ≡ true
-  unfolding inRange icuGood iw1Good timerGood dmaGood channelsGood
+  unfolding inRange timerGood dmaGood channelsGood
   passes w =
       rw (
         lt-ltb (b .kept .length) 8 (w .kept-length),
         w .intp,
-        lt-ltb (b .icu .stage) 4 (w .stage),
-        lt-ltb (b .icu .lowest) 8 (w .lowest),
-        w .iw1,
+        chip-good (b .icu) (w .stage 0 (omega arith)) (w .lowest 0 (omega arith)) (w .iw1 0 (omega arith)),
+        chip-good (b .slave) (w .stage 1 (omega arith)) (w .lowest 1 (omega arith)) (w .iw1 1 (omega arith)),
         counter-of 0 (omega arith),
         counter-of 1 (omega arith),
         counter-of 2 (omega arith),
@@ -176,23 +204,30 @@ module _ (b : Board) (t : Typed b) where
       channel-at : (n : ℕ) → n < 4 → channelGood (chan (b .dma) n) ≡ true
       channel-at n l = channel-good (chan (b .dma) n) (w .address n l) (w .base-address n l) (w .channel-mode n l)
 
+fine : {b : Board} → Reached b → (n : ℕ) → Fine (chip n b)
+fine {b} r = of-each Fine b (reached-held r .icu) (reached-held r .slave)
+
+wide : {b : Board} → Reached b → (n : ℕ) → TypedIcu (chip n b)
+wide {b} r = of-each TypedIcu b (reached-typed r .icu) (reached-typed r .slave)
+
 pub exact : Exact
 unfolding iw1Good
 exact =
     record {
       tested = λ b t. (within b t, passes b t);
-      stage = exactly up.stage (λ b r. reached-held r .icu .stage);
-      iw1 = exactly (λ v h. up.iw1 v (h .0) (h .1)) (λ b r. (reached-typed r .iw1, reached-held r .icu .iw1));
-      iw2 = exactly up.iw2 (λ b r. reached-typed r .iw2);
-      sfi = both (λ b. b .icu .sfi) up.sfi;
-      vector = both (λ b. b .icu .vector) up.vector;
-      rotation = both (λ b. b .icu .rotation) up.rotation;
-      showsisr = both (λ b. b .icu .showsisr) up.showsisr;
-      edges = exactly up.edges (λ b r. reached-typed r .edges);
-      isr = exactly up.isr (λ b r. reached-typed r .isr);
-      imr = exactly up.imr (λ b r. reached-typed r .imr);
-      lowest = exactly up.lowest (λ b r. reached-held r .icu .lowest);
+      stage = λ n l. exactly (λ v h. up.stage n v l h) (λ b r. fine r n .stage);
+      iw1 = λ n l. exactly (λ v h. up.iw1 n v l (h .0) (h .1)) (λ b r. (wide r n .iw1, fine r n .iw1));
+      iw2 = λ n l. exactly (λ v h. up.iw2 n v l h) (λ b r. wide r n .iw2);
+      sfi = λ n l. both (λ b. chip n b .sfi) (up.sfi n l);
+      vector = λ n l. both (λ b. chip n b .vector) (up.vector n l);
+      rotation = λ n l. both (λ b. chip n b .rotation) (up.rotation n l);
+      showsisr = λ n l. both (λ b. chip n b .showsisr) (up.showsisr n l);
+      edges = λ n l. exactly (λ v h. up.edges n v l h) (λ b r. wide r n .edges);
+      isr = λ n l. exactly (λ v h. up.isr n v l h) (λ b r. wide r n .isr);
+      imr = λ n l. exactly (λ v h. up.imr n v l h) (λ b r. wide r n .imr);
+      lowest = λ n l. exactly (λ v h. up.lowest n v l h) (λ b r. fine r n .lowest);
       intp = exactly (λ v h. up.intp v (h .0) (h .1)) (λ b r. (reached-typed r .intp, reached-held r .intp));
+      slaveintp = exactly up.slaveintp (λ b r. reached-typed r .slaveintp);
       mode = λ n l. exactly (λ v h. up.mode n v l h) (λ b r. mode-is r n);
       format = λ n l. exactly (λ v h. up.format n v l h) (λ b r. format-is r n);
       value = λ n l. exactly (λ v h. up.value n v l h) (λ b r. reached-typed r .value n);

@@ -21,7 +21,7 @@ use Rattle.promises.specs.Reached.{fed, unfed}
 use Rattle.promises.proofs.Logic.{both-left, both-right, T-true}
 use Rattle.promises.proofs.Opened.{rules}
 use Rattle.promises.proofs.Sizes.{areBytes, small-bytes}
-use Rattle.exact.specs.Exact.{Has, counter, channel-of, iw1s, evens, modes}
+use Rattle.exact.specs.Exact.{Has, chip, counter, channel-of, iw1s, evens, modes}
 
 -- The board after some records from reset, over one byte of memory.
 unfoldable pub board : List (List ℕ) → Board
@@ -61,25 +61,32 @@ any v = true
 abbrev where-set : ℕ → List (List ℕ) → List (List ℕ) → List (List ℕ)
 where-set v ones zeros = if eqb v 1 then ones else zeros
 
--- The interrupt chip, ready: edge trigger, CALL mode.
-abbrev ready : List (List ℕ)
-ready = writing 0 18 ∷ writing 1 0 ∷ []
+-- The interrupt chip n, ready: edge trigger, CALL mode. Its first port is 00H, or 30H.
+abbrev ready : ℕ → List (List ℕ)
+ready n = writing (48 * n) 18 ∷ writing (48 * n + 1) 0 ∷ []
 
 -- Its stages, IW1 and IW2.
-abbrev staged : ℕ → List (List ℕ)
-staged v = if eqb v 0 then [] else if eqb v 1 then writing 0 19 ∷ [] else if eqb v 2 then writing 0 19 ∷ writing 1 0 ∷ [] else ready
+abbrev staged : ℕ → ℕ → List (List ℕ)
+staged n v =
+    if eqb v 0 then []
+    else if eqb v 1 then writing (48 * n) 19 ∷ []
+    else if eqb v 2 then writing (48 * n) 19 ∷ writing (48 * n + 1) 0 ∷ []
+    else if eqb v 3 then ready n
+    else writing (48 * n) 17 ∷ writing (48 * n + 1) 0 ∷ []
 
-pub stage : (v : ℕ) → v < 4 → Has (λ b. b .icu .stage) v
+pub stage : (n v : ℕ) → n < 2 → v < 5 → Has (λ b. chip n b .stage) v
 unfolding rules joined board areBytes
-stage v h = by-runs (λ n b. b .icu .stage) (λ n v. staged v) any 1 4 tt 0 v (omega arith) h refl
+stage n v l h = by-runs (λ n b. chip n b .stage) (λ n v. staged n v) any 2 5 tt n v l h refl
 
-pub iw1 : (v : ℕ) → v < 256 → iw1s v ≡ true → Has (λ b. b .icu .iw1) v
+pub iw1 : (n v : ℕ) → n < 2 → v < 256 → iw1s v ≡ true → Has (λ b. chip n b .iw1) v
 unfolding rules joined board areBytes
-iw1 v h g = by-runs (λ n b. b .icu .iw1) (λ n v. if eqb v 0 then [] else writing 0 v ∷ []) iw1s 1 256 tt 0 v (omega arith) h g
+iw1 n v l h g = by-runs (λ n b. chip n b .iw1) (λ n v. if eqb v 0 then [] else writing (48 * n) v ∷ []) iw1s 2 256 tt n v l h g
 
-pub iw2 : (v : ℕ) → v < 256 → Has (λ b. b .icu .iw2) v
+pub iw2 : (n v : ℕ) → n < 2 → v < 256 → Has (λ b. chip n b .iw2) v
 unfolding rules joined board areBytes
-iw2 v h = on-board (λ b. b .icu .iw2) v (writing 0 18 ∷ writing 1 v ∷ []) (rw (lt-ltb v 256 h)) refl
+iw2 zero v l h = on-board (λ b. b .icu .iw2) v (writing 0 18 ∷ writing 1 v ∷ []) (rw (lt-ltb v 256 h)) refl
+iw2 (suc zero) v l h = on-board (λ b. b .slave .iw2) v (writing 48 18 ∷ writing 49 v ∷ []) (rw (lt-ltb v 256 h)) refl
+iw2 (suc (suc n)) v l h = absurd (omega arith)
 
 -- IW4's self-FI and vector mode; the rotation in self-FI; what reads show.
 flag : (f : Board → ℕ) (ones : List (List ℕ)) → areBytes (joined ones) ≡ true → f (board ones) ≡ 1 → f (board []) ≡ 0 → (v : ℕ) → v < 2 → Has f v
@@ -88,46 +95,71 @@ flag f ones h a b zero l = on-board f 0 [] refl b
 flag f ones h a b (suc zero) l = on-board f 1 ones h a
 flag f ones h a b (suc (suc v)) l = absurd (omega arith)
 
-pub sfi : (v : ℕ) → v < 2 → Has (λ b. weighed (b .icu .sfi) 1) v
+-- The same of either chip.
+each-flag : (f : ℕ → Board → ℕ) (ones : ℕ → List (List ℕ))
+    → areBytes (joined (ones 0)) ≡ true → f 0 (board (ones 0)) ≡ 1 → f 0 (board []) ≡ 0
+    → areBytes (joined (ones 1)) ≡ true → f 1 (board (ones 1)) ≡ 1 → f 1 (board []) ≡ 0
+    → (n : ℕ) → n < 2 → (v : ℕ) → v < 2 → Has (f n) v
+each-flag f ones h a b h′ a′ b′ zero l = flag (f 0) (ones 0) h a b
+each-flag f ones h a b h′ a′ b′ (suc zero) l = flag (f 1) (ones 1) h′ a′ b′
+each-flag f ones h a b h′ a′ b′ (suc (suc n)) l = absurd (omega arith)
+
+pub sfi : (n : ℕ) → n < 2 → (v : ℕ) → v < 2 → Has (λ b. weighed (chip n b .sfi) 1) v
 unfolding rules joined board areBytes
-sfi = flag _ (writing 0 19 ∷ writing 1 0 ∷ writing 1 2 ∷ []) refl refl refl
+sfi = each-flag (λ n b. weighed (chip n b .sfi) 1) (λ n. writing (48 * n) 19 ∷ writing (48 * n + 1) 0 ∷ writing (48 * n + 1) 2 ∷ []) refl refl refl refl refl refl
 
-pub vector : (v : ℕ) → v < 2 → Has (λ b. weighed (b .icu .vector) 1) v
+pub vector : (n : ℕ) → n < 2 → (v : ℕ) → v < 2 → Has (λ b. weighed (chip n b .vector) 1) v
 unfolding rules joined board areBytes
-vector = flag _ (writing 0 19 ∷ writing 1 0 ∷ writing 1 1 ∷ []) refl refl refl
+vector = each-flag (λ n b. weighed (chip n b .vector) 1) (λ n. writing (48 * n) 19 ∷ writing (48 * n + 1) 0 ∷ writing (48 * n + 1) 1 ∷ []) refl refl refl refl refl refl
 
-pub rotation : (v : ℕ) → v < 2 → Has (λ b. weighed (b .icu .rotation) 1) v
+pub rotation : (n : ℕ) → n < 2 → (v : ℕ) → v < 2 → Has (λ b. weighed (chip n b .rotation) 1) v
 unfolding rules joined board areBytes
-rotation = flag _ (ready ++ writing 0 128 ∷ []) refl refl refl
+rotation = each-flag (λ n b. weighed (chip n b .rotation) 1) (λ n. ready n ++ writing (48 * n) 128 ∷ []) refl refl refl refl refl refl
 
-pub showsisr : (v : ℕ) → v < 2 → Has (λ b. weighed (b .icu .showsisr) 1) v
+pub showsisr : (n : ℕ) → n < 2 → (v : ℕ) → v < 2 → Has (λ b. weighed (chip n b .showsisr) 1) v
 unfolding rules joined board areBytes
-showsisr = flag _ (ready ++ writing 0 11 ∷ []) refl refl refl
+showsisr = each-flag (λ n b. weighed (chip n b .showsisr) 1) (λ n. ready n ++ writing (48 * n) 11 ∷ []) refl refl refl refl refl refl
 
--- Edge requests: all the lines rise at once, line 0 by a mode word for counter 0.
-abbrev risen : ℕ → List (List ℕ)
-risen v = ready ++ setting 0 (v - v % 2) ∷ (if bitOf v 0 then writing 19 20 ∷ [] else [])
+-- Edge requests: all the lines rise at once, line 0 of the master by a mode word for counter 0.
+abbrev risen : ℕ → ℕ → List (List ℕ)
+risen n v =
+    ready n ++ (if eqb n 0 then setting 0 (v - v % 2) ∷ (if bitOf v 0 then writing 19 20 ∷ [] else []) else setting 3 v ∷ [])
 
-pub edges : (v : ℕ) → v < 256 → Has (λ b. b .icu .edges) v
+pub edges : (n v : ℕ) → n < 2 → v < 256 → Has (λ b. chip n b .edges) v
 unfolding rules joined board areBytes
-edges v h = by-runs (λ n b. b .icu .edges) (λ n v. risen v) any 1 256 tt 0 v (omega arith) h refl
+edges n v l h = by-runs (λ n b. chip n b .edges) (λ n v. risen n v) any 2 256 tt n v l h refl
 
--- Levels in service: each of them is acknowledged, the lowest-ranked first.
+-- Levels in service: each of them is acknowledged, the lowest-ranked first. Those of the slave are passed on by a master in level trigger and self-FI.
 abbrev nested : ℕ → ℕ → List (List ℕ)
 nested v zero = if bitOf v 0 then writing 19 20 ∷ acknowledging ∷ [] else []
 nested v (suc n) = (if bitOf v (suc n) then setting 0 (2 ^ suc n) ∷ acknowledging ∷ [] else []) ++ nested v n
 
-pub isr : (v : ℕ) → v < 256 → Has (λ b. b .icu .isr) v
-unfolding rules joined board areBytes
-isr v h = by-runs (λ n b. b .icu .isr) (λ n v. ready ++ nested v 7) any 1 256 tt 0 v (omega arith) h refl
+abbrev passing : List (List ℕ)
+passing =
+    writing 0 25 ∷ writing 1 0 ∷ writing 1 128 ∷ writing 1 2 ∷ writing 48 16 ∷ writing 49 0 ∷ writing 49 7 ∷ []
 
-pub imr : (v : ℕ) → v < 256 → Has (λ b. b .icu .imr) v
-unfolding rules joined board areBytes
-imr v h = on-board (λ b. b .icu .imr) v (ready ++ writing 1 v ∷ []) (rw (lt-ltb v 256 h)) refl
+abbrev passed : ℕ → ℕ → List (List ℕ)
+passed v zero = []
+passed v (suc n) = (if bitOf v n then setting 3 (2 ^ n) ∷ acknowledging ∷ [] else []) ++ passed v n
 
-pub lowest : (v : ℕ) → v < 8 → Has (λ b. b .icu .lowest) v
+pub isr : (n v : ℕ) → n < 2 → v < 256 → Has (λ b. chip n b .isr) v
 unfolding rules joined board areBytes
-lowest v h = by-runs (λ n b. b .icu .lowest) (λ n v. ready ++ writing 0 (192 + v) ∷ []) any 1 8 tt 0 v (omega arith) h refl
+isr n v l h =
+    by-runs (λ n b. chip n b .isr) (λ n v. if eqb n 0 then ready 0 ++ nested v 7 else passing ++ passed v 8) any 2 256 tt n v l h refl
+
+pub imr : (n v : ℕ) → n < 2 → v < 256 → Has (λ b. chip n b .imr) v
+unfolding rules joined board areBytes
+imr zero v l h = on-board (λ b. b .icu .imr) v (ready 0 ++ writing 1 v ∷ []) (rw (lt-ltb v 256 h)) refl
+imr (suc zero) v l h = on-board (λ b. b .slave .imr) v (ready 1 ++ writing 49 v ∷ []) (rw (lt-ltb v 256 h)) refl
+imr (suc (suc n)) v l h = absurd (omega arith)
+
+pub lowest : (n v : ℕ) → n < 2 → v < 8 → Has (λ b. chip n b .lowest) v
+unfolding rules joined board areBytes
+lowest n v l h = by-runs (λ n b. chip n b .lowest) (λ n v. ready n ++ writing (48 * n) (192 + v) ∷ []) any 2 8 tt n v l h refl
+
+pub slaveintp : (v : ℕ) → v < 256 → Has (λ b. b .slaveintp) v
+unfolding rules joined board areBytes
+slaveintp v h = on-board (λ b. b .slaveintp) v (setting 3 v ∷ []) (rw (lt-ltb v 256 h)) refl
 
 pub intp : (v : ℕ) → v < 256 → evens v ≡ true → Has (λ b. b .intp) v
 unfolding rules joined board areBytes

@@ -9,6 +9,7 @@ use lib.Dec.{eqb}
 use lib.ListN.{getD}
 use Rattle.bits.specs.Choice.{if_then_else_, _and_, _or_}
 use Rattle.bits.specs.Bits.{bitOf}
+use Rattle.icu.specs.declared.Icu.{Icu}
 use Rattle.timer.specs.declared.Counter.{Counter}
 use Rattle.timer.specs.Timer.{at}
 use Rattle.dma.specs.declared.Channel.{Channel}
@@ -35,16 +36,19 @@ Below n v = v < n
 abbrev pub Both : (Board → Bool) → Type 0
 Both f = Exactly (λ b. if f b then 1 else 0) (Below 2)
 
--- Counter n, and channel n.
+-- Interrupt chip n (0 the master, 1 the slave), counter n, and channel n.
+abbrev pub chip : ℕ → Board → Icu
+chip n b = if eqb n 0 then b .icu else b .slave
+
 abbrev pub counter : ℕ → Board → Counter
 counter n b = at (b .timer) n
 
 abbrev pub channel-of : ℕ → Board → Channel
 channel-of n b = chan (b .dma) n
 
--- IW1: none yet (00H), or a byte with D4 and D1 set. INTP: bit 0 is clear. A channel's mode: D7-D6 and D3-D2 are not 11, D1 and D0 are clear.
+-- IW1: none yet (00H), or a byte with D4 set. INTP: bit 0 is clear. A channel's mode: D7-D6 and D3-D2 are not 11, D1 and D0 are clear.
 abbrev pub iw1s : ℕ → Bool
-iw1s v = eqb v 0 or (bitOf v 4 and bitOf v 1)
+iw1s v = eqb v 0 or bitOf v 4
 
 abbrev pub evens : ℕ → Bool
 evens v = eqb (v % 2) 0
@@ -58,9 +62,9 @@ ByteWith test v = (v < 256) × (test v ≡ true)
 
 -- The same sets, as far as a field's type does not see to them, of one board: what a call tests before anything else.
 pub record Within (b : Board) : Type 0 where
-  pub stage : b .icu .stage < 4
-  pub iw1 : iw1s (b .icu .iw1) ≡ true
-  pub lowest : b .icu .lowest < 8
+  pub stage : (n : ℕ) → n < 2 → chip n b .stage < 5
+  pub iw1 : (n : ℕ) → n < 2 → iw1s (chip n b .iw1) ≡ true
+  pub lowest : (n : ℕ) → n < 2 → chip n b .lowest < 8
   pub intp : evens (b .intp) ≡ true
   pub mode : (n : ℕ) → n < 3 → among (counter n b .mode) (0 ∷ 1 ∷ 2 ∷ 3 ∷ 4 ∷ 5 ∷ 255 ∷ []) ≡ true
   pub format : (n : ℕ) → n < 3 → counter n b .format < 4
@@ -78,19 +82,20 @@ pub record Exact : Type 0 where
   -- A call tests each field for its set, and for nothing else. (Where the test fails it is refused with 7: `row-7` of demand 1.)
   -- Not so: a board that lets an odd INTP pass; one that refuses a combination that no tape leads to.
   pub tested : (b : Board) → Typed b → (inRange b ≡ true) ↔ Within b
-  -- The interrupt chip, and INTP.
-  pub stage : Exactly (λ b. b .icu .stage) (Below 4)
-  pub iw1 : Exactly (λ b. b .icu .iw1) (ByteWith iw1s)
-  pub iw2 : Exactly (λ b. b .icu .iw2) (Below 256)
-  pub sfi : Both (λ b. b .icu .sfi)
-  pub vector : Both (λ b. b .icu .vector)
-  pub rotation : Both (λ b. b .icu .rotation)
-  pub showsisr : Both (λ b. b .icu .showsisr)
-  pub edges : Exactly (λ b. b .icu .edges) (Below 256)
-  pub isr : Exactly (λ b. b .icu .isr) (Below 256)
-  pub imr : Exactly (λ b. b .icu .imr) (Below 256)
-  pub lowest : Exactly (λ b. b .icu .lowest) (Below 8)
+  -- Interrupt chip n, INTP, and the slave's lines.
+  pub stage : (n : ℕ) → n < 2 → Exactly (λ b. chip n b .stage) (Below 5)
+  pub iw1 : (n : ℕ) → n < 2 → Exactly (λ b. chip n b .iw1) (ByteWith iw1s)
+  pub iw2 : (n : ℕ) → n < 2 → Exactly (λ b. chip n b .iw2) (Below 256)
+  pub sfi : (n : ℕ) → n < 2 → Both (λ b. chip n b .sfi)
+  pub vector : (n : ℕ) → n < 2 → Both (λ b. chip n b .vector)
+  pub rotation : (n : ℕ) → n < 2 → Both (λ b. chip n b .rotation)
+  pub showsisr : (n : ℕ) → n < 2 → Both (λ b. chip n b .showsisr)
+  pub edges : (n : ℕ) → n < 2 → Exactly (λ b. chip n b .edges) (Below 256)
+  pub isr : (n : ℕ) → n < 2 → Exactly (λ b. chip n b .isr) (Below 256)
+  pub imr : (n : ℕ) → n < 2 → Exactly (λ b. chip n b .imr) (Below 256)
+  pub lowest : (n : ℕ) → n < 2 → Exactly (λ b. chip n b .lowest) (Below 8)
   pub intp : Exactly (λ b. b .intp) (ByteWith evens)
+  pub slaveintp : Exactly (λ b. b .slaveintp) (Below 256)
   -- Counter n. Its mode is 0 to 5, or 255, none yet.
   pub mode : (n : ℕ) → n < 3 → Exactly (λ b. counter n b .mode) (λ v. among v (0 ∷ 1 ∷ 2 ∷ 3 ∷ 4 ∷ 5 ∷ 255 ∷ []) ≡ true)
   pub format : (n : ℕ) → n < 3 → Exactly (λ b. counter n b .format) (Below 4)

@@ -23,7 +23,7 @@ use Rattle.board.specs.declared.Run.{Run}
 use Rattle.board.specs.declared.Stepped.{Stepped}
 use Rattle.board.specs.Operations.{refused}
 use Rattle.board.specs.Advance.{roseOf, tickOf, advancedOf, run, advanceOf}
-use Rattle.board.specs.Wiring.{levelsOf}
+use Rattle.board.specs.Wiring.{joined, levelsOf}
 use Rattle.board.specs.Step.{executeOf, memoryAfter, blocked, outcomeOf, memoryOf, answeredOf, stepOf, stepMemory}
 use Rattle.promises.specs.Records.{advancing}
 use Rattle.promises.specs.Modes.{risesIn}
@@ -105,11 +105,11 @@ reported b k (suc (suc (suc n))) few h = absurd (omega arith)
 module _ (b : Board) (m : List ℕ) (n k : ℕ) (few : n < 3) (h : k < 65536) where
   pub counter-alone : at (stepOf b (advancing k) m .board .timer) n ≡ ranOf (at (b .timer) n) k .counter
   counter-alone =
-      ap (λ (s : Stepped). at (s .board .timer) n) (advanced b m k h) ∙ left b k n ∙ alone (b .intp) (b .timer) (b .icu) n k few .counter
+      ap (λ (s : Stepped). at (s .board .timer) n) (advanced b m k h) ∙ left b k n ∙ alone (joined b) (b .timer) (b .icu) n k few .counter
 
   pub rises-alone : risesIn n (stepOf b (advancing k) m .answer) ≡ ranOf (at (b .timer) n) k .rises
   rises-alone =
-      let q = alone (b .intp) (b .timer) (b .icu) n k few .rises in
+      let q = alone (joined b) (b .timer) (b .icu) n k few .rises in
       let small : getD (run b k .rises) n 0 < 65536 = rw q (omega (arith, few-rises (at (b .timer) n) k)) in
       ap (λ (s : Stepped). risesIn n (s .answer)) (advanced b m k h) ∙ reported b k n few small ∙ q
 
@@ -155,7 +155,7 @@ module _ (b : Board) (m : List ℕ) (k : ℕ) (h : k < 65536) where
       go true = refl
       go false = refl
 
-  advance-board : stepOf b (advancing k) m .board ≡ advanceOf b k .board
+  pub advance-board : stepOf b (advancing k) m .board ≡ advanceOf b k .board
   unfolding answeredOf
   advance-board = ap (λ (s : Stepped). s .board) (advanced b m k h)
 
@@ -182,7 +182,7 @@ module _ (b : Board) (m : List ℕ) (i j : ℕ) (h : i + j < 65536) where
 
   board-on : advanceOf (advanceOf b i .board) j .board ≡ advanceOf b (i + j) .board
   unfolding advanceOf
-  board-on = rw (timer-on (b .intp) (b .timer) (b .icu) i j, icu-on (b .intp) (b .timer) (b .icu) i j)
+  board-on = rw (timer-on (joined b) (b .timer) (b .icu) i j, icu-on (joined b) (b .timer) (b .icu) i j)
 
   same-board : stepOf b′ (advancing j) m′ .board ≡ stepOf b (advancing (i + j)) m .board
   same-board =

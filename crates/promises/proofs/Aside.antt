@@ -6,15 +6,17 @@ use Prim.Native.Nat.{ℕ, zero, suc, _/_}
 use lib.Dec.{eqb}
 use Rattle.bits.specs.Choice.{if_then_else_}
 use Rattle.tape.specs.declared.Operation.{Operation}
-use Rattle.tape.specs.declared.Operation.the-variants.{Reset, Write, Read, Intp, Gates, Requests, Acknowledge, Advance, Cycle}
+use Rattle.tape.specs.declared.Operation.the-variants.{Reset, Write, Read, Intp, Gates, Requests, SlaveIntp, Acknowledge, Advance, Cycle}
 use Rattle.tape.specs.declared.Decoded.{Decoded}
 use Rattle.tape.specs.declared.Decoded.the-variants.{Asked, Malformed}
 use Rattle.tape.specs.Records.{byte, decodeOf}
+use Rattle.icu.specs.Words as IcuWords
+use Rattle.cascade.specs.Cascade.{slaveIw3, answered, passedOn}
 use Rattle.timer.specs.Timer.{writesOf, readsOf}
 use Rattle.dma.specs.Registers as DmaRegisters
 use Rattle.board.specs.declared.Board.{Board}
-use Rattle.board.specs.Operations.{Outcome, telling, done, refused, icuTold, icuWritten, icuShown, a0, timerWritten, timerShown, dmaWritten, dmaShown, writeOf, readOf, cycleOf, cycleMemory}
-use Rattle.board.specs.Wiring.{timer-is, dma-is, levelsOf, rewired}
+use Rattle.board.specs.Operations.{Outcome, telling, done, refused, icuTold, icuWritten, icuShown, a0, slaveWritten, slaveShown, acknowledged, slaveGives, acknowledgeOf, timerWritten, timerShown, dmaWritten, dmaShown, writeOf, readOf, cycleOf, cycleMemory}
+use Rattle.board.specs.Wiring.{slave-is, timer-is, dma-is, lines, followed, levelsOf}
 use Rattle.board.specs.Advance.{advanceOf}
 use Rattle.board.specs.Step.{executeOf, memoryAfter, blocked, outcomeOf, memoryOf, answeredOf, stepOf, stepMemory}
 use Rattle.board.specs.Records.{recordAt, Run, next, after}
@@ -38,9 +40,9 @@ module _ (kept : List ℕ) (n : ℕ) where
 
   module _ (b : Board) where
     timer-write : (p x : ℕ) → timerWritten (K b) p x ≡ O (timerWritten b p x)
-    unfolding timerWritten rewired
+    unfolding timerWritten
     timer-write p x =
-        choice (eqb (writesOf (b .timer) p x .status) 0) (done (rewired (b .intp) (writesOf (b .timer) p x .timer) b)) (refused (writesOf (b .timer) p x .status) b) refl refl
+        choice (eqb (writesOf (b .timer) p x .status) 0) (done (followed b (timer-is (writesOf (b .timer) p x .timer) b))) (refused (writesOf (b .timer) p x .status) b) refl refl
 
     timer-read : (p : ℕ) → timerShown (K b) p ≡ O (timerShown b p)
     unfolding timerShown
@@ -57,29 +59,49 @@ module _ (kept : List ℕ) (n : ℕ) where
     dma-read p =
         choice (eqb (DmaRegisters.readOf (b .dma) p .status) 0) (telling (dma-is (DmaRegisters.readOf (b .dma) p .dma) b) (DmaRegisters.readOf (b .dma) p .byte)) (refused (DmaRegisters.readOf (b .dma) p .status) b) refl refl
 
+    slave-write : (k : Bool) (x : ℕ) → slaveWritten (K b) k x ≡ O (slaveWritten b k x)
+    unfolding slaveWritten
+    slave-write k x =
+        choice (eqb (IcuWords.writeOf (b .slave) slaveIw3 k x .status) 0) (done (followed b (slave-is (IcuWords.writeOf (b .slave) slaveIw3 k x .icu) (b .slaveintp) b))) (refused (IcuWords.writeOf (b .slave) slaveIw3 k x .status) b) refl refl
+
+    slave-read : (k : Bool) → slaveShown (K b) k ≡ O (slaveShown b k)
+    unfolding slaveShown
+    slave-read k = refl
+
+    acknowledge-aside : acknowledgeOf (K b) ≡ O (acknowledgeOf b)
+    unfolding acknowledgeOf slaveGives
+    acknowledge-aside =
+        choice (passedOn (b .icu) (lines b) (b .slave)) (slaveGives b) (if answered (b .icu) (b .slave) then icuTold b (acknowledged b) else refused 3 b) refl
+        (choice (answered (b .icu) (b .slave)) (icuTold b (acknowledged b)) (refused 3 b) refl refl)
+
     -- The chip that a port names.
-    by-port : (p : ℕ) (u v w : Outcome) {x y z : Outcome} → x ≡ O u → y ≡ O v → z ≡ O w
-        → (if eqb (p / 16) 0 then x else if eqb (p / 16) 1 then y else z) ≡ O (if eqb (p / 16) 0 then u else if eqb (p / 16) 1 then v else w)
-    by-port p u v w e f g = choice (eqb (p / 16) 0) u (if eqb (p / 16) 1 then v else w) e (choice (eqb (p / 16) 1) v w f g)
+    by-port : (p : ℕ) (s t u v : Outcome) {w x y z : Outcome} → w ≡ O s → x ≡ O t → y ≡ O u → z ≡ O v
+        → (if eqb (p / 16) 0 then w else if eqb (p / 16) 1 then x else if eqb (p / 16) 2 then y else z)
+        ≡ O (if eqb (p / 16) 0 then s else if eqb (p / 16) 1 then t else if eqb (p / 16) 2 then u else v)
+    by-port p s t u v d e f g =
+        choice (eqb (p / 16) 0) s (if eqb (p / 16) 1 then t else if eqb (p / 16) 2 then u else v) d
+        (choice (eqb (p / 16) 1) t (if eqb (p / 16) 2 then u else v) e (choice (eqb (p / 16) 2) u v f g))
 
     write-aside : (p x : ℕ) → writeOf (K b) p x ≡ O (writeOf b p x)
     unfolding writeOf
     write-aside p x =
-        by-port p (icuTold b (icuWritten b (a0 p) x)) (timerWritten b p x) (dmaWritten b p x) refl (timer-write p x) (dma-write p x)
+        by-port p (icuTold b (icuWritten b (a0 p) x)) (timerWritten b p x) (dmaWritten b p x) (slaveWritten b (a0 p) x) refl (timer-write p x) (dma-write p x) (slave-write (a0 p) x)
 
     read-aside : (p : ℕ) → readOf (K b) p ≡ O (readOf b p)
     unfolding readOf
-    read-aside p = by-port p (icuTold b (icuShown b (a0 p))) (timerShown b p) (dmaShown b p) refl (timer-read p) (dma-read p)
+    read-aside p =
+        by-port p (icuTold b (icuShown b (a0 p))) (timerShown b p) (dmaShown b p) (slaveShown b (a0 p)) refl (timer-read p) (dma-read p) (slave-read (a0 p))
 
     execute-aside : (o : Operation) (m : List ℕ) → executeOf (K b) o m ≡ O (executeOf b o m)
-    unfolding executeOf advanceOf cycleOf rewired
+    unfolding executeOf advanceOf cycleOf
     execute-aside Reset m = refl
     execute-aside (Write p x) m = write-aside p x
     execute-aside (Read p) m = read-aside p
     execute-aside (Intp l) m = refl
     execute-aside (Gates l) m = refl
     execute-aside (Requests l) m = refl
-    execute-aside Acknowledge m = refl
+    execute-aside (SlaveIntp l) m = refl
+    execute-aside Acknowledge m = acknowledge-aside
     execute-aside (Advance k) m = refl
     execute-aside (Cycle e x) m = refl
 
@@ -96,6 +118,7 @@ module _ (kept : List ℕ) (n : ℕ) where
     carried-aside (Intp l) m = refl
     carried-aside (Gates l) m = refl
     carried-aside (Requests l) m = refl
+    carried-aside (SlaveIntp l) m = refl
     carried-aside Acknowledge m = refl
     carried-aside (Advance k) m = refl
     carried-aside (Cycle e x) m = refl

@@ -26,7 +26,7 @@ use Rattle.board.specs.Operations.{Outcome, refused, cycleOf}
 use Rattle.board.specs.Wiring.{levelsOf}
 use Rattle.board.specs.Step.{executeOf, blocked, outcomeOf, answeredOf, stepOf}
 use Rattle.board.specs.Records.{recordAt, Run, after}
-use Rattle.tape.proofs.Decodes.{Decodes, malformed, reset, write, read, intp, gates, requests, acknowledge, advance, cycle, decodes}
+use Rattle.tape.proofs.Decodes.{Decodes, malformed, reset, write, read, intp, gates, requests, slave-intp, acknowledge, advance, cycle, decodes}
 use Rattle.promises.proofs.Logic.{both-left, both-right}
 use Rattle.promises.specs.Table.{formed}
 use Rattle.promises.specs.TaughtWords.{plainCycle, goesOn}
@@ -49,6 +49,7 @@ module _ (r : List ℕ) (six : byte r 0 ≡ 6) (low : byte r 1 ≡ 0) where
   is-cycle x (intp o l) a = other 3 o (omega arith)
   is-cycle x (gates o l) a = other 3 o (omega arith)
   is-cycle x (requests o l) a = other 3 o (omega arith)
+  is-cycle x (slave-intp o) a = other 3 o (omega arith)
   is-cycle x (acknowledge o) a = other 4 o (omega arith)
   is-cycle x (advance o l) a = other 5 o (omega arith)
   is-cycle x (cycle o) a = rw low

@@ -137,6 +137,8 @@ module _ (b : Board) (tape m answers : List ℕ) where
           long = length-stays;
           icu = rw q;
           intp = rw q;
+          slave = rw q;
+          slaveintp = rw q;
           timer = rw q;
           dma = rw q;
           memory = rw q;

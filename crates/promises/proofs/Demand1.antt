@@ -36,19 +36,19 @@ module _ (b : Board) (r m : List ℕ) where
   of-record =
       record {
         status-due = status-due b r m;
-        record-status = rw (status-due b r m) (small (formed r) (held b r) (outOfTurn b r) (notBuilt r) (countsOne b r));
+        record-status = rw (status-due b r m) (small (formed r) (held b r) (outOfTurn b r) (notBuilt b r) (countsOne b r));
         never-5 = λ e.
-            true≢false (sym (eq-eqb _ 5 (sym (status-due b r m) ∙ e)) ∙ is-5 (formed r) (held b r) (outOfTurn b r) (notBuilt r) (countsOne b r));
+            true≢false (sym (eq-eqb _ 5 (sym (status-due b r m) ∙ e)) ∙ is-5 (formed r) (held b r) (outOfTurn b r) (notBuilt b r) (countsOne b r));
         answer-shape = (answer-length b r m, operation-shown b r m, levels-shown b r m);
         refused-record = λ h.
             let q = ne-eqb (statusOf b r m) 0 h in
             (board-stays b m r q, memory-stays b m r q, answer-fixed b m r q);
-        row-2 = exactly _ _ 2 _ (status-due b r m) (is-2 (formed r) (held b r) (outOfTurn b r) (notBuilt r) (countsOne b r));
-        row-1 = exactly _ _ 1 _ (status-due b r m) (is-1 (formed r) (held b r) (outOfTurn b r) (notBuilt r) (countsOne b r));
-        row-3 = exactly _ _ 3 _ (status-due b r m) (is-3 (formed r) (held b r) (outOfTurn b r) (notBuilt r) (countsOne b r));
-        row-4 = exactly _ _ 4 _ (status-due b r m) (is-4 (formed r) (held b r) (outOfTurn b r) (notBuilt r) (countsOne b r));
-        row-6 = exactly _ _ 6 _ (status-due b r m) (is-6 (formed r) (held b r) (outOfTurn b r) (notBuilt r) (countsOne b r));
-        row-0 = exactly _ _ 0 _ (status-due b r m) (is-0 (formed r) (held b r) (outOfTurn b r) (notBuilt r) (countsOne b r));
+        row-2 = exactly _ _ 2 _ (status-due b r m) (is-2 (formed r) (held b r) (outOfTurn b r) (notBuilt b r) (countsOne b r));
+        row-1 = exactly _ _ 1 _ (status-due b r m) (is-1 (formed r) (held b r) (outOfTurn b r) (notBuilt b r) (countsOne b r));
+        row-3 = exactly _ _ 3 _ (status-due b r m) (is-3 (formed r) (held b r) (outOfTurn b r) (notBuilt b r) (countsOne b r));
+        row-4 = exactly _ _ 4 _ (status-due b r m) (is-4 (formed r) (held b r) (outOfTurn b r) (notBuilt b r) (countsOne b r));
+        row-6 = exactly _ _ 6 _ (status-due b r m) (is-6 (formed r) (held b r) (outOfTurn b r) (notBuilt b r) (countsOne b r));
+        row-0 = exactly _ _ 0 _ (status-due b r m) (is-0 (formed r) (held b r) (outOfTurn b r) (notBuilt b r) (countsOne b r));
       }
 
 module _ (b : Board) (tape m answers : List ℕ) where

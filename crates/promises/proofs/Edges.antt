@@ -10,40 +10,42 @@ use lib.ListN.{getD}
 use borrow.Author.Tests.{eqb-true, eqb-false, eq-eqb, ne-eqb, leb-true, ltb-true, ltb-false}
 use Rattle.bits.specs.Choice.{if_then_else_, _and_, _or_}
 use Rattle.bits.specs.Bits.{bitOf}
-use Rattle.tape.specs.declared.Operation.the-variants.{Reset, Write, Read, Intp, Gates, Requests, Acknowledge, Advance, Cycle}
+use Rattle.tape.specs.declared.Operation.the-variants.{Reset, Write, Read, Intp, Gates, Requests, SlaveIntp, Acknowledge, Advance, Cycle}
 use Rattle.tape.specs.declared.Decoded.{Decoded}
 use Rattle.tape.specs.Records.{byte, pulseCount, decodeOf}
 use Rattle.tape.specs.Answers.{answerOf}
 use Rattle.icu.specs.declared.Icu.{Icu}
 use Rattle.icu.specs.Answers as IcuAnswers
 use Rattle.icu.specs.Words as IcuWords
-use Rattle.icu.specs.Words.{ready, lev, i4}
+use Rattle.icu.specs.Words.{ready, lev, sngl, i4}
 use Rattle.icu.specs.Requests.{irrOf, intOf, linesOf}
 use Rattle.icu.specs.Service as IcuService
 use Rattle.icu.specs.Service.{takes, servedOf}
+use Rattle.cascade.specs.Cascade.{masterIw3, slaveIw3, joinedOf, answered as has-answer, passedOn}
 use Rattle.timer.specs.declared.Timer.{Timer}
 use Rattle.timer.specs.Run.{ranOf}
 use Rattle.timer.specs.Timer.{at, resetsOf, writesOf, readsOf, gatesOf}
 use Rattle.dma.specs.Registers as DmaRegisters
 use Rattle.board.specs.declared.Board.{Board}
 use Rattle.board.specs.declared.Run.{Run}
-use Rattle.board.specs.Operations.{Outcome, a0, done, refused, icuTold, timerWritten, timerShown, dmaWritten, dmaShown, writeOf, readOf, cycleOf}
-use Rattle.board.specs.Wiring.{linesBy, linesAt, lines, int, rewired}
+use Rattle.board.specs.Operations.{Outcome, a0, done, refused, toldWith, icuTold, acknowledged, slaveLines, slaveWritten, slaveShown, slaveTells, slaveGives, acknowledgeOf, timerWritten, timerShown, dmaWritten, dmaShown, writeOf, readOf, cycleOf}
+use Rattle.board.specs.Wiring.{icu-is, intp-is, slave-is, timer-is, linesBy, linesAt, joined, lines, int, followed}
 use Rattle.board.specs.Advance.{advancedOf, run, advanceOf}
 use Rattle.board.specs.Step.{executeOf, blocked, outcomeOf, answeredOf, stepOf}
 use Rattle.board.proofs.Line.{before, never-rose}
 use Rattle.board.proofs.Pulses.{pulses}
-use Rattle.tape.proofs.Decodes.{either, Decodes, malformed, reset, write, read, intp, gates, requests, acknowledge, advance, cycle, decodes}
-use Rattle.promises.specs.Words.{Highest, lineHigh, askedFor}
+use Rattle.tape.proofs.Decodes.{either, Decodes, malformed, reset, write, read, intp, gates, requests, slave-intp, acknowledge, advance, cycle, decodes}
+use Rattle.promises.specs.Words.{Highest, lineHigh, requested, askedFor}
 use Rattle.promises.specs.Withdrawn.{countsRise, rose, restarts, Acknowledges}
-use Rattle.promises.proofs.Logic.{or-false, or-first, and-true, and-false}
-use Rattle.promises.proofs.Statuses.{Port, of-icu, of-timer, of-dma, writable-port}
+use Rattle.promises.proofs.Logic.{both-left, or-false, or-first, and-true, and-false}
+use Rattle.promises.proofs.Statuses.{Port, of-icu, of-timer, of-dma, of-slave, writable-port}
 use Rattle.promises.proofs.Counters.{reads-out}
 use Rattle.promises.proofs.Plain.{no-bit}
-use Rattle.promises.proofs.Sizes.{lines-by-small, lines-small}
+use Rattle.promises.proofs.Sizes.{lines-by-small, joined-small, lines-small}
 use Rattle.promises.proofs.Advances.{alone, few-rises, reported}
-use Rattle.promises.proofs.Requested.{Fit, line-by, line-bit, edged, stage-stays, trigger-stays, edge-bit, unready-lines, level-lines}
-use Rattle.promises.proofs.Taken.{named-icu, named-status, highest-asked, served-edges}
+use Rattle.promises.proofs.Requested.{Fit, line-by, line-bit, joined-line, irr-bit, edged, stage-stays, trigger-stays, edge-bit, unready-lines, level-lines}
+use Rattle.promises.proofs.SetUps.{both-answer, passed-by}
+use Rattle.promises.proofs.Taken.{named-icu, named-status, highest-asked, answers-ready, served-edges}
 
 -- Where level k has a request, the chip is ready, in edge trigger, and the line is high.
 abbrev pub Backed : Board → ℕ → Type 0
@@ -64,6 +66,17 @@ pub data Goes (b : Board) (r a : List ℕ) (k : ℕ) (c : Board) : Type 0 where
   starts : restarts r a ≡ true → rose b c a k ≡ false → bitOf (c .icu .edges) k ≡ false → Goes b r a k c
   takes-it : Acknowledges b r a k → rose b c a k ≡ false → bitOf (c .icu .edges) k ≡ false → Goes b r a k c
   goes-on : restarts r a ≡ false → (Acknowledges b r a k → ⊥) → (up : Bool) → rose b c a k ≡ up → Follows b c up k → Goes b r a k c
+
+-- A change of lines leaves IW1.
+iw1-stays : (c : Icu) (was now : ℕ) → linesOf c was now .iw1 ≡ c .iw1
+unfolding linesOf
+iw1-stays c was now = either (λ (d : Icu). d .iw1 ≡ c .iw1) (ready c) (λ _. either (λ (d : Icu). d .iw1 ≡ c .iw1) (lev c) (λ _. refl) (λ _. refl)) (λ _. refl)
+
+-- A slave to which level 7 is passed on is ready, and answers.
+slave-answers : (b : Board) → passedOn (b .icu) (lines b) (b .slave) ≡ true → slaveTells b .status ≡ 0
+slave-answers b p =
+    let x = both-answer b (passed-by (b .icu) (lines b) (b .slave) p .0) in
+    answers-ready (b .slave) (b .slaveintp) (both-left (ready (b .slave)) _ (x .1))
 
 -- A line that stays has not risen.
 not-both : (p : Bool) → (not p and p) ≡ false
@@ -157,19 +170,18 @@ module _ (b : Board) (k : ℕ) (low : k < 8) (fit : Fit b) (is-backed : Backed b
       by false q p s h =
           absurd (false≢true (sym p ∙ is-backed (sym (ap (λ (i : Icu). bitOf (i .edges) k) (unready-lines (b .icu) was now hn p)) ∙ h) .0))
 
-  -- Other levels of INTP, or another timer.
-  rewired-follows : (l : ℕ) (t : Timer) → l < 256 → Follows b (rewired l t b) (not (lineHigh b k) and lineHigh (rewired l t b) k) k
-  unfolding rewired
-  rewired-follows l t h =
-      let w = line-bit (b .intp) k (b .timer) (fit .intp) low in
-      let n = line-bit l k t h low in
-      moved (rewired l t b) (lines b) (linesAt l t) (not (lineHigh b k) and lineHigh (rewired l t b) k)
-      (lines-small (b .intp) (b .timer) (fit .intp))
-      (lines-small l t h)
-      refl
+  -- The rest of the board became that of d, the chip has done nothing yet, and follows.
+  followed-follows : (d : Board) → d .icu ≡ b .icu → joined d < 256 → Follows b (followed b d) (not (lineHigh b k) and lineHigh d k) k
+  followed-follows d same h =
+      let w = line-bit (joined b) k (b .timer) (fit .wires) low in
+      let n = line-bit (joined d) k (d .timer) h low in
+      moved (followed b d) (lines b) (lines d) (not (lineHigh b k) and lineHigh d k)
+      (lines-small (joined b) (b .timer) (fit .wires))
+      (lines-small (joined d) (d .timer) h)
+      (ap (λ (c : Icu). linesOf c (lines b) (lines d)) same)
       (sym n)
-      (λ q. let d = falls-back e (lineHigh b k) (lineHigh (rewired l t b) k) (λ s. is-backed s .2) (rw (w, n) at q) in (n ∙ d .0, d .1))
-      (λ p q. rw (w, n) (rises-up e (lineHigh b k) (lineHigh (rewired l t b) k) (λ s. is-backed s .2) (sym n ∙ p) q))
+      (λ q. let x = falls-back e (lineHigh b k) (lineHigh d k) (λ s. is-backed s .2) (rw (w, n) at q) in (n ∙ x .0, x .1))
+      (λ p q. rw (w, n) (rises-up e (lineHigh b k) (lineHigh d k) (λ s. is-backed s .2) (sym n ∙ p) q))
 
   module _ (r m : List ℕ) (bytes : (j : ℕ) → byte r j < 256) where
     -- The answer of an outcome, and what it leads to.
@@ -215,11 +227,11 @@ module _ (b : Board) (k : ℕ) (low : k < 8) (fit : Fit b) (is-backed : Backed b
         → Does o
     still o q he hw hr hl = goes-on (q .restarted) (q .unasked) false (still-low (o .board) (answered o) (q .counted) hl) (same (o .board) he hw hr hl)
 
-    lined : (l : ℕ) (t : Timer) → l < 256 → Calm (done (rewired l t b)) → Does (done (rewired l t b))
-    lined l t h q =
-        goes-on (q .restarted) (q .unasked) (not (lineHigh b k) and lineHigh (rewired l t b) k)
-        (rw (q .counted, and-false (eqb k 0)) (or-false (not (lineHigh b k) and lineHigh (rewired l t b) k)))
-        (rewired-follows l t h)
+    lined : (d : Board) → d .icu ≡ b .icu → joined d < 256 → Calm (done (followed b d)) → Does (done (followed b d))
+    lined d same h q =
+        goes-on (q .restarted) (q .unasked) (not (lineHigh b k) and lineHigh d k)
+        (rw (q .counted, and-false (eqb k 0)) (or-false (not (lineHigh b k) and lineHigh d k)))
+        (followed-follows d same h)
 
     -- The operation is another one.
     other : (n j : ℕ) → eqb (byte r 0) n ≡ true → eqb n j ≡ false → eqb (byte r 0) j ≡ false
@@ -250,15 +262,23 @@ module _ (b : Board) (k : ℕ) (low : k < 8) (fit : Fit b) (is-backed : Backed b
         unkept n h =
             still (icuTold b (IcuAnswers.refused n (b .icu))) (refused-calm (icuTold b (IcuAnswers.refused n (b .icu))) h) refl refl (λ p. p) refl
 
-        later : (x : ℕ) → Q (IcuWords.laterWord (b .icu) x)
+        later : (w x : ℕ) → Q (IcuWords.laterWord (b .icu) w x)
         unfolding IcuWords.laterWord
-        later x =
+        later w x =
             either Q (ready (b .icu)) (λ p. keeps _ refl refl (λ _. p))
             (λ u. either Q (eqb (b .icu .stage) 1)
+            (λ _. either (λ (c : Icu). Q (IcuAnswers.done c)) (sngl (b .icu))
             (λ _. either (λ (c : Icu). Q (IcuAnswers.done c)) (i4 (b .icu))
             (λ _. keeps _ refl refl (λ p. absurd (true≢false (sym p ∙ u))))
             (λ _. keeps _ refl refl (λ _. refl)))
-            (λ _. either Q (eqb (b .icu .stage) 2) (λ _. keeps _ refl refl (λ _. refl)) (λ _. unkept 3 refl)))
+            (λ _. keeps _ refl refl (λ p. absurd (true≢false (sym p ∙ u)))))
+            (λ _. either Q (eqb (b .icu .stage) 4)
+            (λ _. either Q (eqb x w)
+            (λ _. either (λ (c : Icu). Q (IcuAnswers.done c)) (i4 (b .icu))
+            (λ _. keeps _ refl refl (λ p. absurd (true≢false (sym p ∙ u))))
+            (λ _. keeps _ refl refl (λ _. refl)))
+            (λ _. unkept 4 refl))
+            (λ _. either Q (eqb (b .icu .stage) 2) (λ _. keeps _ refl refl (λ _. refl)) (λ _. unkept 3 refl))))
 
         mcw-goes : (x : ℕ) → Q (IcuWords.mcw (b .icu) x)
         unfolding IcuWords.mcw
@@ -305,7 +325,8 @@ module _ (b : Board) (k : ℕ) (low : k < 8) (fit : Fit b) (is-backed : Backed b
       at-zero : (p : ℕ) → Port p → eqb (p / 16) 0 ≡ true → a0 p ≡ false → eqb p 0 ≡ true
       at-zero p (of-icu l _ _ _) z h = eq-eqb p 0 (omega (arith, ltb-true p 2 l, eqb-false (p % 2) 1 h))
       at-zero p (of-timer _ _ _ _ z _) q h = absurd (true≢false (sym q ∙ z))
-      at-zero p (of-dma _ _ _ _ _ z _) q h = absurd (true≢false (sym q ∙ z))
+      at-zero p (of-dma _ _ _ _ _ z _ _) q h = absurd (true≢false (sym q ∙ z))
+      at-zero p (of-slave _ _ _ _ _ z _ _) q h = absurd (true≢false (sym q ∙ z))
 
       not-zero : (p : ℕ) → a0 p ≡ true → eqb p 0 ≡ false
       not-zero p h = ne-eqb p 0 (omega (arith, eqb-true (p % 2) 1 h))
@@ -313,34 +334,37 @@ module _ (b : Board) (k : ℕ) (low : k < 8) (fit : Fit b) (is-backed : Backed b
       past-zero : (p : ℕ) → eqb (p / 16) 0 ≡ false → eqb p 0 ≡ false
       past-zero p h = ne-eqb p 0 (omega (arith, eqb-false (p / 16) 0 h))
 
-      icu-goes : Port (byte r 1) → eqb (byte r 1 / 16) 0 ≡ true → Q (IcuWords.writeOf (b .icu) (a0 (byte r 1)) (byte r 2))
+      icu-goes : Port (byte r 1) → eqb (byte r 1 / 16) 0 ≡ true → Q (IcuWords.writeOf (b .icu) masterIw3 (a0 (byte r 1)) (byte r 2))
       unfolding IcuWords.writeOf
       icu-goes port z =
-          either Q (a0 (byte r 1)) (λ a. later (rw (not-zero (byte r 1) a)) (byte r 2))
+          either Q (a0 (byte r 1)) (λ a. later (rw (not-zero (byte r 1) a)) masterIw3 (byte r 2))
           (λ a. either Q (bitOf (byte r 2) 4)
-          (λ d. either Q (bitOf (byte r 2) 1) (λ _. begins (at-zero (byte r 1) port z a) d)
-          (λ _. still (icuTold b (IcuAnswers.refused 4 (b .icu))) (refused-calm (icuTold b (IcuAnswers.refused 4 (b .icu))) refl) refl refl (λ p. p) refl))
+          (λ d. begins (at-zero (byte r 1) port z a) d)
           (λ d. let no : (eqb (byte r 1) 0 and bitOf (byte r 2) 4) ≡ false = rw d (and-false (eqb (byte r 1) 0)) in
           either Q (ready (b .icu))
           (λ _. either Q (bitOf (byte r 2) 3) (λ _. mcw-goes no (byte r 2)) (λ _. pfcw-goes no (byte r 2)))
           (λ _. unkept no 3 refl)))
 
       write-goes : Port (byte r 1) → Does (writeOf b (byte r 1) (byte r 2))
-      unfolding writeOf timerWritten dmaWritten
+      unfolding writeOf timerWritten dmaWritten slaveWritten
       write-goes port =
           either Does (eqb (byte r 1 / 16) 0) (λ z. icu-goes port z)
           (λ z. let no : (eqb (byte r 1) 0 and bitOf (byte r 2) 4) ≡ false = rw (past-zero (byte r 1) z) in
           either Does (eqb (byte r 1 / 16) 1)
           (λ _. either Does (eqb (writesOf (b .timer) (byte r 1) (byte r 2) .status) 0)
-          (λ _. lined (b .intp) (writesOf (b .timer) (byte r 1) (byte r 2) .timer) (fit .intp) (written-calm _ no))
+          (λ _. lined (timer-is (writesOf (b .timer) (byte r 1) (byte r 2) .timer) b) refl (fit .wires) (written-calm _ no))
           (λ h. refuses _ h))
+          (λ _. either Does (eqb (byte r 1 / 16) 2)
           (λ _. either Does (eqb (DmaRegisters.writeOf (b .dma) (byte r 1) (byte r 2) .status) 0)
           (λ _. still _ (written-calm _ no) refl refl (λ p. p) refl)
-          (λ h. refuses _ h)))
+          (λ h. refuses _ h))
+          (λ _. either Does (eqb (IcuWords.writeOf (b .slave) slaveIw3 (a0 (byte r 1)) (byte r 2) .status) 0)
+          (λ _. lined (slave-is (IcuWords.writeOf (b .slave) slaveIw3 (a0 (byte r 1)) (byte r 2) .icu) (b .slaveintp) b) refl (joined-small (b .intp) _ (b .slaveintp) (fit .intp)) (written-calm _ no))
+          (λ h. refuses _ h))))
 
     -- A read.
     read-goes : eqb (byte r 0) 2 ≡ true → Does (readOf b (byte r 1))
-    unfolding readOf timerShown dmaShown IcuService.readOf
+    unfolding readOf timerShown dmaShown slaveShown IcuService.readOf
     read-goes op =
         either Does (eqb (byte r 1 / 16) 0)
         (λ _. either (λ (t : IcuAnswers.Told). Does (icuTold b t)) (ready (b .icu))
@@ -351,11 +375,13 @@ module _ (b : Board) (k : ℕ) (low : k < 8) (fit : Fit b) (is-backed : Backed b
         (λ _. unmoved (IcuAnswers.refused 3 (b .icu)) refl))
         (λ _. either Does (eqb (byte r 1 / 16) 1)
         (λ _. either Does (eqb (readsOf (b .timer) (byte r 1) .status) 0)
-        (λ _. still _ (calm _) refl refl (λ p. p) (ap (λ (q : Bool). if eqb k 0 then q else bitOf (b .intp) k) (reads-out (b .timer) 0 (byte r 1))))
+        (λ _. still _ (calm _) refl refl (λ p. p) (ap (λ (q : Bool). if eqb k 0 then q else bitOf (joined b) k) (reads-out (b .timer) 0 (byte r 1))))
         (λ h. refuses _ h))
+        (λ _. either Does (eqb (byte r 1 / 16) 2)
         (λ _. either Does (eqb (DmaRegisters.readOf (b .dma) (byte r 1) .status) 0)
         (λ _. still _ (calm _) refl refl (λ p. p) refl)
-        (λ h. refuses _ h)))
+        (λ h. refuses _ h))
+        (λ _. still _ (calm _) refl refl (λ p. p) refl)))
       where
         calm : (o : Outcome) → Calm o
         calm o = apart-from 2 op refl refl refl refl o
@@ -441,9 +467,130 @@ module _ (b : Board) (k : ℕ) (low : k < 8) (fit : Fit b) (is-backed : Backed b
                 (λ p. ap (λ (i : Icu). ready i) q ∙ ap (λ (s : ℕ). eqb s 3) (served-rest .1) ∙ p)
                 refl
 
-      acknowledge-goes : K (IcuService.acknowledgeOf (b .icu) (lines b))
+      -- Level 7 is passed on: the request of 7 goes, and line 7, which was high, makes no new one; the other lines do not move.
+      module _ (passed : passedOn (b .icu) (lines b) (b .slave) ≡ true) where
+        high-7 : int b ≡ true
+        high-7 = passed-by (b .icu) (lines b) (b .slave) passed .1
+
+        is-7 : n high-7 ≡ 7
+        is-7 = passed-by (b .icu) (lines b) (b .slave) passed .2
+
+        first-7 : Highest (askedFor b) (b .icu .lowest) 7
+        first-7 = subst (Highest (askedFor b) (b .icu .lowest)) is-7 (first high-7)
+
+        -- the chip has served level 7, and its lines have followed the slave's INT
+        abbrev served-7 : Icu
+        served-7 = servedOf (b .icu) 7
+
+        abbrev d-7 : Board
+        d-7 = slave-is (slaveTells b .icu) (b .slaveintp) (icu-is served-7 b)
+
+        abbrev c-7 : Board
+        c-7 = followed b d-7
+
+        rest-7 : (served-7 .iw1 ≡ b .icu .iw1) × (served-7 .stage ≡ b .icu .stage)
+        rest-7 = subst (λ (i : ℕ). (servedOf (b .icu) i .iw1 ≡ b .icu .iw1) × (servedOf (b .icu) i .stage ≡ b .icu .stage)) is-7 (served-rest high-7)
+
+        wires-7 : joined d-7 < 256
+        wires-7 = joined-small (b .intp) (slaveTells b .icu) (b .slaveintp) (fit .intp)
+
+        small-7 : lines d-7 < 256
+        small-7 = lines-small (joined d-7) (b .timer) wires-7
+
+        bit-7 : bitOf (served-7 .edges) k ≡ (e and not (eqb k 7))
+        bit-7 = served-edges (b .icu) 7 (omega arith) (fit .edges) k low
+
+        -- what is left of the request of level k, for a line that was at a level and is at another
+        after-7 : (p q : Bool) → ready (b .icu) ≡ p → lev (b .icu) ≡ q
+            → bitOf (c-7 .icu .edges) k
+            ≡ (if p and not q then edged (e and not (eqb k 7)) (lineHigh b k) (lineHigh d-7 k) else e and not (eqb k 7))
+        after-7 true false p q =
+            edge-bit served-7 (lines b) (lines d-7) small-7 k (lines-small (joined b) (b .timer) (fit .wires)) low
+            (ap (λ (s : ℕ). eqb s 3) (rest-7 .1) ∙ p)
+            (ap (λ (x : ℕ). bitOf x 3) (rest-7 .0) ∙ q)
+            ∙ rw (bit-7, line-bit (joined b) k (b .timer) (fit .wires) low, line-bit (joined d-7) k (b .timer) wires-7 low)
+        after-7 true true p q =
+            ap (λ (i : Icu). bitOf (i .edges) k) (level-lines served-7 (lines b) (lines d-7) small-7 (ap (λ (x : ℕ). bitOf x 3) (rest-7 .0) ∙ q)) ∙ bit-7
+        after-7 false q p _ =
+            ap (λ (i : Icu). bitOf (i .edges) k) (unready-lines served-7 (lines b) (lines d-7) small-7 (ap (λ (s : ℕ). eqb s 3) (rest-7 .1) ∙ p)) ∙ bit-7
+
+        -- Line 7 was high: in level trigger that is the request, in edge trigger it backs it.
+        was-high : k ≡ 7 → lineHigh b k ≡ true
+        was-high z = by (lev (b .icu)) refl (both-left (requested b k) (not (bitOf (b .icu .imr) k)) (ap (λ (i : ℕ). askedFor b i) z ∙ first-7 .chosen))
+          where
+            by : (q : Bool) → lev (b .icu) ≡ q → (if q then lineHigh b k else e) ≡ true → lineHigh b k ≡ true
+            by true q h = h
+            by false q h = is-backed h .2
+
+        abbrev told-7 : Outcome
+        told-7 = toldWith c-7 (slaveTells b)
+
+        not-risen : (p q : Bool) → p ≡ true → (not p and q) ≡ false
+        not-risen p q h = rw h
+
+        no-edge : (p q : Bool) → p ≡ true → edged false p q ≡ false
+        no-edge true true h = refl
+        no-edge true false h = refl
+        no-edge false q h = absurd (false≢true h)
+
+        same-edge : (v p : Bool) → edged v p p ≡ v
+        same-edge true true = refl
+        same-edge true false = refl
+        same-edge false true = refl
+        same-edge false false = refl
+
+        -- Of the other lines none moves.
+        same-line : k ≢ 7 → lineHigh d-7 k ≡ lineHigh b k
+        same-line ne =
+            ap (λ (q : Bool). if eqb k 0 then at (b .timer) 0 .out else q)
+            (joined-line (b .intp) (slaveTells b .icu) (b .slaveintp) k (fit .intp) low
+            ∙ rw (ne-eqb k 7 ne)
+            (sym (joined-line (b .intp) (b .slave) (b .slaveintp) k (fit .intp) low ∙ rw (ne-eqb k 7 ne))))
+
+        passed-goes : slaveTells b .status ≡ 0 → Does told-7
+        unfolding answeredOf answerOf
+        passed-goes st = by (eqb k 7) refl
+          where
+            gone : eqb k 7 ≡ true → (p q : Bool) → ready (b .icu) ≡ p → lev (b .icu) ≡ q → bitOf (c-7 .icu .edges) k ≡ false
+            gone h true false p q =
+                after-7 true false p q
+                ∙ rw (h, and-false e) (no-edge (lineHigh b k) (lineHigh d-7 k) (was-high (eqb-true k 7 h)))
+            gone h true true p q = after-7 true true p q ∙ rw (h, and-false e)
+            gone h false q p s = after-7 false q p s ∙ rw (h, and-false e)
+
+            kept : eqb k 7 ≡ false → (p q : Bool) → ready (b .icu) ≡ p → lev (b .icu) ≡ q → bitOf (c-7 .icu .edges) k ≡ e
+            kept h true false p q =
+                after-7 true false p q
+                ∙ rw (h, and-true e, same-line (eqb-false k 7 h)) (same-edge e (lineHigh b k))
+            kept h true true p q = after-7 true true p q ∙ rw (h, and-true e)
+            kept h false q p s = after-7 false q p s ∙ rw (h, and-true e)
+
+            by : (v : Bool) → eqb k 7 ≡ v → Does told-7
+            by true h =
+                takes-it
+                (record {
+                  operation = eqb-true (byte r 0) 4 op;
+                  accepted = st;
+                  high = high-7;
+                  level = subst (Highest (askedFor b) (b .icu .lowest)) (sym (eqb-true k 7 h)) first-7;
+                })
+                (rw (uncounted told-7, and-false (eqb k 0)) (or-false (not (lineHigh b k) and lineHigh d-7 k) ∙ not-risen (lineHigh b k) (lineHigh d-7 k) (was-high (eqb-true k 7 h))))
+                (gone h (ready (b .icu)) (lev (b .icu)) refl refl)
+            by false h =
+                still told-7
+                (record {
+                  restarted = unstarted told-7;
+                  unasked = λ x. one-highest (b .icu .lowest) k 7 (x .level) first-7 (eqb-false k 7 h);
+                  counted = uncounted told-7;
+                })
+                (kept h (ready (b .icu)) (lev (b .icu)) refl refl)
+                (iw1-stays served-7 (lines b) (lines d-7) ∙ rest-7 .0)
+                (λ p. ap (λ (s : ℕ). eqb s 3) (stage-stays served-7 (lines b) (lines d-7) small-7 ∙ rest-7 .1) ∙ p)
+                (same-line (eqb-false k 7 h))
+
+      master-goes : K (IcuService.acknowledgeOf (b .icu) (lines b))
       unfolding IcuService.acknowledgeOf
-      acknowledge-goes =
+      master-goes =
           either K (ready (b .icu))
           (λ _. either K (intOf (b .icu) (lines b))
           (λ h. let d = servedOf (b .icu) (n h) in
@@ -451,9 +598,15 @@ module _ (b : Board) (k : ℕ) (low : k < 8) (fit : Fit b) (is-backed : Backed b
           (λ h. spurious h (IcuService.naming (b .icu) 7 (b .icu)) (named-icu (b .icu) 7 (b .icu))))
           (λ _. still (icuTold b (IcuAnswers.refused 3 (b .icu))) (refused-calm (icuTold b (IcuAnswers.refused 3 (b .icu))) refl) refl refl (λ p. p) refl)
 
+      acknowledge-goes : Does (acknowledgeOf b)
+      unfolding acknowledgeOf slaveGives
+      acknowledge-goes =
+          either Does (passedOn (b .icu) (lines b) (b .slave)) (λ p. passed-goes p (slave-answers b p))
+          (λ _. either Does (has-answer (b .icu) (b .slave)) (λ _. master-goes) (λ _. refuses 3 refl))
+
     -- A reset.
     reset-goes : eqb (byte r 0) 0 ≡ true → Does (executeOf b Reset m)
-    unfolding executeOf answeredOf answerOf resetsOf IcuWords.resetOf
+    unfolding executeOf answeredOf answerOf resetsOf joinedOf intOf IcuWords.resetOf
     reset-goes op =
         starts (rw op)
         (rw (other 0 5 op refl, no-bit k low) (all-low (eqb k 0) (lineHigh b k)))
@@ -482,20 +635,20 @@ module _ (b : Board) (k : ℕ) (low : k < 8) (fit : Fit b) (is-backed : Backed b
       counts : countsRise (answered (advanceOf b n)) ≡ ltb 0 x
       unfolding answeredOf advanceOf answerOf
       counts =
-          let q = alone (b .intp) (b .timer) (b .icu) 0 n (omega arith) .rises in
+          let q = alone (joined b) (b .timer) (b .icu) 0 n (omega arith) .rises in
           let small : getD (run b n .rises) 0 0 < 65536 = rw q (omega (arith, few-rises (at (b .timer) 0) n)) in
           rw op (ap (λ (y : ℕ). ltb 0 y) (reported b n 0 (omega arith) small ∙ q))
 
-      chip : c .icu ≡ linesOf (b .icu) (linesBy (b .intp) (before out out′ x)) (linesBy (b .intp) out′)
+      chip : c .icu ≡ linesOf (b .icu) (linesBy (joined b) (before out out′ x)) (linesBy (joined b) out′)
       unfolding advanceOf
-      chip = ap (λ (g : Run). g .icu) (sym (pulses (b .intp) (b .timer) (b .icu) (fit .intp) (fit .edges) n some))
+      chip = ap (λ (g : Run). g .icu) (sym (pulses (joined b) (b .timer) (b .icu) (fit .wires) (fit .edges) n some))
 
-      line : lineHigh c k ≡ (if eqb k 0 then out′ else bitOf (b .intp) k)
+      line : lineHigh c k ≡ (if eqb k 0 then out′ else bitOf (joined b) k)
       unfolding advanceOf
-      line = ap (λ (q : Bool). if eqb k 0 then q else bitOf (b .intp) k) (ap (λ d. d .out) (alone (b .intp) (b .timer) (b .icu) 0 n (omega arith) .counter))
+      line = ap (λ (q : Bool). if eqb k 0 then q else bitOf (joined b) k) (ap (λ d. d .out) (alone (joined b) (b .timer) (b .icu) 0 n (omega arith) .counter))
 
-      small-line : (q : Bool) → linesBy (b .intp) q < 256
-      small-line q = lines-by-small (b .intp) q (fit .intp)
+      small-line : (q : Bool) → linesBy (joined b) q < 256
+      small-line q = lines-by-small (joined b) q (fit .wires)
 
       never : ltb 0 x ≡ false → out′ ≡ true → out ≡ true
       never h = never-rose (at (b .timer) 0) n (omega (arith, ltb-false 0 x h))
@@ -505,23 +658,23 @@ module _ (b : Board) (k : ℕ) (low : k < 8) (fit : Fit b) (is-backed : Backed b
 
       follows : (q : Bool) → eqb k 0 ≡ q → Follows b c up k
       follows true q =
-          let w : bitOf (linesBy (b .intp) (before out out′ x)) k ≡ before out out′ x =
-          line-by (b .intp) k (before out out′ x) (fit .intp) low ∙ ap (λ (z : Bool). if z then before out out′ x else bitOf (b .intp) k) q in
-          let v : bitOf (linesBy (b .intp) out′) k ≡ out′ =
-          line-by (b .intp) k out′ (fit .intp) low ∙ ap (λ (z : Bool). if z then out′ else bitOf (b .intp) k) q in
-          let h : lineHigh c k ≡ out′ = line ∙ ap (λ (z : Bool). if z then out′ else bitOf (b .intp) k) q in
-          let g : lineHigh b k ≡ out = ap (λ (z : Bool). if z then out else bitOf (b .intp) k) q in
-          moved c (linesBy (b .intp) (before out out′ x)) (linesBy (b .intp) out′) up (small-line (before out out′ x)) (small-line out′) chip (h ∙ sym v)
+          let w : bitOf (linesBy (joined b) (before out out′ x)) k ≡ before out out′ x =
+          line-by (joined b) k (before out out′ x) (fit .wires) low ∙ ap (λ (z : Bool). if z then before out out′ x else bitOf (joined b) k) q in
+          let v : bitOf (linesBy (joined b) out′) k ≡ out′ =
+          line-by (joined b) k out′ (fit .wires) low ∙ ap (λ (z : Bool). if z then out′ else bitOf (joined b) k) q in
+          let h : lineHigh c k ≡ out′ = line ∙ ap (λ (z : Bool). if z then out′ else bitOf (joined b) k) q in
+          let g : lineHigh b k ≡ out = ap (λ (z : Bool). if z then out else bitOf (joined b) k) q in
+          moved c (linesBy (joined b) (before out out′ x)) (linesBy (joined b) out′) up (small-line (before out out′ x)) (small-line out′) chip (h ∙ sym v)
           (λ z. let d = falls-last e out out′ (ltb 0 x) (λ s. sym g ∙ is-backed s .2) never (rw (w, v) at z) in (v ∙ d .0, rw (g, h, q) (d .1)))
           (λ p z. rw (w, v) (rises-last e out out′ (ltb 0 x) (λ s. sym g ∙ is-backed s .2) never (sym v ∙ p) (rw (g, h, q) at z)))
       follows false q =
-          let i = bitOf (b .intp) k in
-          let w : bitOf (linesBy (b .intp) (before out out′ x)) k ≡ i =
-          line-by (b .intp) k (before out out′ x) (fit .intp) low ∙ ap (λ (z : Bool). if z then before out out′ x else i) q in
-          let v : bitOf (linesBy (b .intp) out′) k ≡ i = line-by (b .intp) k out′ (fit .intp) low ∙ ap (λ (z : Bool). if z then out′ else i) q in
+          let i = bitOf (joined b) k in
+          let w : bitOf (linesBy (joined b) (before out out′ x)) k ≡ i =
+          line-by (joined b) k (before out out′ x) (fit .wires) low ∙ ap (λ (z : Bool). if z then before out out′ x else i) q in
+          let v : bitOf (linesBy (joined b) out′) k ≡ i = line-by (joined b) k out′ (fit .wires) low ∙ ap (λ (z : Bool). if z then out′ else i) q in
           let h : lineHigh c k ≡ i = line ∙ ap (λ (z : Bool). if z then out′ else i) q in
           let g : lineHigh b k ≡ i = ap (λ (z : Bool). if z then out else i) q in
-          moved c (linesBy (b .intp) (before out out′ x)) (linesBy (b .intp) out′) up (small-line (before out out′ x)) (small-line out′) chip (h ∙ sym v)
+          moved c (linesBy (joined b) (before out out′ x)) (linesBy (joined b) out′) up (small-line (before out out′ x)) (small-line out′) chip (h ∙ sym v)
           (λ z. let d = falls-back e i i (λ s. sym g ∙ is-backed s .2) (rw (w, v) at z) in (v ∙ d .0, rw (g, h, q, or-false (not i and i)) (d .1)))
           (λ p z. rw (w, v) (rises-up e i i (λ s. sym g ∙ is-backed s .2) (sym v ∙ p) (rw (g, h, q, or-false (not i and i)) at z)))
 
@@ -563,13 +716,16 @@ module _ (b : Board) (k : ℕ) (low : k < 8) (fit : Fit b) (is-backed : Backed b
     does x (read o p) = either Does (blocked b (Read (byte r 1))) (λ _. refuses 1 refl) (λ _. read-goes o)
     does x (intp o l) =
         either Does (blocked b (Intp (byte r 2))) (λ _. refuses 1 refl)
-        (λ _. lined (byte r 2) (b .timer) (bytes 2) (apart-from 3 o refl refl refl refl _))
+        (λ _. lined (intp-is (byte r 2) b) refl (joined-small (byte r 2) (b .slave) (b .slaveintp) (bytes 2)) (apart-from 3 o refl refl refl refl _))
     does x (gates o l) =
         either Does (blocked b (Gates (byte r 2))) (λ _. refuses 1 refl)
-        (λ _. lined (b .intp) (gatesOf (b .timer) (byte r 2)) (fit .intp) (apart-from 3 o refl refl refl refl _))
+        (λ _. lined (timer-is (gatesOf (b .timer) (byte r 2)) b) refl (fit .wires) (apart-from 3 o refl refl refl refl _))
     does x (requests o l) =
         either Does (blocked b (Requests (byte r 2))) (λ _. refuses 1 refl)
         (λ _. still _ (apart-from 3 o refl refl refl refl _) refl refl (λ p. p) refl)
+    does x (slave-intp o) =
+        either Does (blocked b (SlaveIntp (byte r 2))) (λ _. refuses 1 refl)
+        (λ _. lined (slaveLines b (byte r 2)) refl (joined-small (b .intp) _ (byte r 2) (fit .intp)) (apart-from 3 o refl refl refl refl _))
     does x (acknowledge o) = either Does (blocked b Acknowledge) (λ _. refuses 1 refl) (λ _. acknowledge-goes o)
     does x (advance o l) =
         either Does (blocked b (Advance (pulseCount r))) (λ _. refuses 1 refl)

@@ -34,6 +34,7 @@ fit-in-range {b = b} f =
       lt-ltb (b .kept .length) 8 (f .few),
       f .held .intp,
       the-icu.fine-good (b .icu) (f .held .icu),
+      the-icu.fine-good (b .slave) (f .held .slave),
       the-timer.fine-good (b .timer) (f .held .timer),
       sound-good (b .dma) (f .sound),
     )
@@ -50,8 +51,9 @@ fit-of b h t =
     record {
       held = record {
         intp = g .1;
-        icu = the-icu.good-fine (b .icu) (t .isr) (g .2);
-        timer = the-timer.good-fine (b .timer) (t .three) (g .3);
+        icu = the-icu.good-fine (b .icu) (t .icu .isr) (g .2);
+        slave = the-icu.good-fine (b .slave) (t .slave .isr) (g .3);
+        timer = the-timer.good-fine (b .timer) (t .three) (g .4);
       };
       sound = sound-of b t h;
       few = ltb-true _ _ (g .0);

@@ -27,7 +27,7 @@ use Rattle.timer.specs.Timer.{blank, at, counter-is, wroteBy, gotBy, controlsOf
 use Rattle.board.specs.declared.Board.{Board}
 use Rattle.board.specs.declared.Stepped.{Stepped}
 use Rattle.board.specs.Operations.{telling, timerShown, writeOf, readOf}
-use Rattle.board.specs.Wiring.{timer-is}
+use Rattle.board.specs.Wiring.{timer-is, joined}
 use Rattle.board.specs.Advance.{tickOf, advancedOf}
 use Rattle.board.specs.Step.{executeOf, blocked, outcomeOf, answeredOf, stepOf}
 use Rattle.board.specs.Records.{recordAt, after}
@@ -149,7 +149,7 @@ step-kept c b r status t n few h (writes o l u s) a =
 step-kept c b r status t n few h (reads o l u s) a =
     reads-kept c (b .timer) n h (byte r 1) (λ e. eqb-false (byte r 1) (16 + n) (rw (s, o) at a) (omega arith))
 step-kept c b r status t n few h (sets o) a = gates-kept c (b .timer) n h few (byte r 2)
-step-kept c b r status t n few h (pulses o) a = advances-kept c (b .intp) (b .timer) (b .icu) (pulseCount r) n few h
+step-kept c b r status t n few h (pulses o) a = advances-kept c (joined b) (b .timer) (b .icu) (pulseCount r) n few h
 
 pub after-kept : (b : Board) (m s : List ℕ) (n k : ℕ) → n < 3 → Unread n b m s k → Kept (at (b .timer) n) (at (after b m s k .board .timer) n)
 unfolding after

@@ -12,7 +12,7 @@ use Rattle.bits.specs.Bits.{bitOf, withOf, withoutOf}
 use Rattle.icu.specs.declared.Icu.{Icu}
 use Rattle.icu.specs.Answers.{Told}
 use Rattle.icu.specs.Ranks.{levelAt, highestFrom, highestOf}
-use Rattle.icu.specs.Words.{ready, lev, i4, resetOf, iw1, laterWord, setsExceptional, mcw, finished, commanded, pfcw, writeOf}
+use Rattle.icu.specs.Words.{ready, lev, sngl, i4, resetOf, iw1, laterWord, setsExceptional, mcw, finished, commanded, pfcw, writeOf}
 use Rattle.icu.specs.Requests.{askedOf, outranksAll, intOf, linesOf}
 use Rattle.icu.specs.Service.{takes, servedOf, acknowledgeOf, readOf}
 use Rattle.intake.specs.Ranges.{iw1Good, icuGood}
@@ -20,7 +20,7 @@ use Rattle.tape.proofs.Decodes.{either}
 use Rattle.promises.proofs.Logic.{both-left, both-right}
 
 pub record Fine (c : Icu) : Type 0 where
-  pub stage : c .stage < 4
+  pub stage : c .stage < 5
   pub lowest : c .lowest < 8
   pub isr : c .isr < 256
   pub iw1 : iw1Good (c .iw1) ≡ true
@@ -109,29 +109,37 @@ highest-small x l n h b =
     hit x l 0 8 ((n + 7 - l % 8) % 8) (omega arith) (rw e b)
 
 -- Words written.
-done-iw1 : (x : ℕ) → bitOf x 4 ≡ true → bitOf x 1 ≡ true → iw1Good x ≡ true
+done-iw1 : (x : ℕ) → bitOf x 4 ≡ true → iw1Good x ≡ true
 unfolding iw1Good
-done-iw1 x h k = at (eqb x 0)
+done-iw1 x h = at (eqb x 0)
   where
-    at : (q : Bool) → (q or (bitOf x 4 and bitOf x 1)) ≡ true
+    at : (q : Bool) → (q or bitOf x 4) ≡ true
     at true = refl
-    at false = rw (h, k)
+    at false = h
 
 module _ (c : Icu) (f : Fine c) where
   abbrev P : Told → Type 0
   P t = Fine (t .icu)
 
-  later-fine : (x : ℕ) → P (laterWord c x)
+  later-fine : (w x : ℕ) → P (laterWord c w x)
   unfolding laterWord
-  later-fine x =
+  later-fine w x =
       either P (ready c) (λ _. record { stage = f .stage; lowest = f .lowest; isr = f .isr; iw1 = f .iw1 })
       (λ _. either P (eqb (c .stage) 1)
+      (λ _. either Fine (sngl c)
       (λ _. either Fine (i4 c)
       (λ _. record { stage = omega arith; lowest = f .lowest; isr = f .isr; iw1 = f .iw1 })
       (λ _. record { stage = omega arith; lowest = f .lowest; isr = f .isr; iw1 = f .iw1 }))
+      (λ _. record { stage = omega arith; lowest = f .lowest; isr = f .isr; iw1 = f .iw1 }))
+      (λ _. either P (eqb (c .stage) 4)
+      (λ _. either P (eqb x w)
+      (λ _. either Fine (i4 c)
+      (λ _. record { stage = omega arith; lowest = f .lowest; isr = f .isr; iw1 = f .iw1 })
+      (λ _. record { stage = omega arith; lowest = f .lowest; isr = f .isr; iw1 = f .iw1 }))
+      (λ _. f))
       (λ _. either P (eqb (c .stage) 2)
       (λ _. record { stage = omega arith; lowest = f .lowest; isr = f .isr; iw1 = f .iw1 })
-      (λ _. f)))
+      (λ _. f))))
 
   mcw-fine : (x : ℕ) → P (mcw c x)
   unfolding mcw
@@ -168,26 +176,24 @@ module _ (c : Icu) (f : Fine c) where
       go false false false = record { stage = f .stage; lowest = f .lowest; isr = f .isr; iw1 = f .iw1 }
       go false true false = f
 
-  pub write-fine : (k : Bool) (x : ℕ) → Fine (writeOf c k x .icu)
+  pub write-fine : (w : ℕ) (k : Bool) (x : ℕ) → Fine (writeOf c w k x .icu)
   unfolding writeOf iw1
-  write-fine k x =
-      either P k (λ _. later-fine x)
+  write-fine w k x =
+      either P k (λ _. later-fine w x)
       (λ _. either P (bitOf x 4)
-      (λ h. either P (bitOf x 1)
-      (λ l. record { stage = omega arith; lowest = omega arith; isr = omega arith; iw1 = done-iw1 x h l })
-      (λ _. f))
+      (λ h. record { stage = omega arith; lowest = omega arith; isr = omega arith; iw1 = done-iw1 x h })
       (λ _. either P (ready c)
       (λ _. either P (bitOf x 3) (λ _. mcw-fine x) (λ _. pfcw-fine x))
       (λ _. f)))
 
   -- An acknowledge.
-  takes-small : (lines : ℕ) → intOf c lines ≡ true → takes c lines < 8
+  pub takes-small : (lines : ℕ) → intOf c lines ≡ true → takes c lines < 8
   unfolding intOf
   takes-small lines h =
       let r = found (λ n. bitOf (askedOf c lines) n and outranksAll c n) 8 (both-right (ready c) _ h) in
       highest-small (askedOf c lines) (c .lowest) (r .0) (r .1) (both-left (bitOf (askedOf c lines) (r .0)) (outranksAll c (r .0)) (r .2))
 
-  served-fine : (n : ℕ) → n < 8 → Fine (servedOf c n)
+  pub served-fine : (n : ℕ) → n < 8 → Fine (servedOf c n)
   unfolding servedOf
   served-fine n h =
       either Fine (c .sfi)
@@ -227,14 +233,14 @@ reset-fine = record { stage = omega arith; lowest = omega arith; isr = omega ari
 
 pub fine-good : (c : Icu) → Fine c → icuGood c ≡ true
 unfolding icuGood
-fine-good c f = rw (lt-ltb (c .stage) 4 (f .stage), lt-ltb (c .lowest) 8 (f .lowest), f .iw1)
+fine-good c f = rw (lt-ltb (c .stage) 5 (f .stage), lt-ltb (c .lowest) 8 (f .lowest), f .iw1)
 
 pub good-fine : (c : Icu) → c .isr < 256 → icuGood c ≡ true → Fine c
 unfolding icuGood
 good-fine c h g =
-    let k = both-right (ltb (c .stage) 4) _ g in
+    let k = both-right (ltb (c .stage) 5) _ g in
     record {
-      stage = ltb-true _ _ (both-left (ltb (c .stage) 4) _ g);
+      stage = ltb-true _ _ (both-left (ltb (c .stage) 5) _ g);
       lowest = ltb-true _ _ (both-left (ltb (c .lowest) 8) _ k);
       isr = h;
       iw1 = both-right (ltb (c .lowest) 8) _ k;

@@ -37,6 +37,7 @@ pub mod Units
 pub mod Loads
 pub mod HalfRead
 pub mod Requested
+pub mod SetUps
 pub mod Taken
 pub mod Taught
 pub mod Modes
@@ -45,6 +46,9 @@ pub mod Chopped
 pub mod Waves
 pub mod Edges
 pub mod Withdrawn
+pub mod OneChip
+pub mod SlaveKept
+pub mod Cascade
 pub mod Meant
 pub mod Worked
 pub mod Examples

@@ -30,7 +30,6 @@ use Rattle.timer.specs.Run.{ranOf}
 use Rattle.timer.specs.Timer.{blank, at, wroteBy, controlsOf, writesOf}
 use Rattle.board.specs.declared.Board.{Board}
 use Rattle.board.specs.Operations.{timerWritten, writeOf}
-use Rattle.board.specs.Wiring.{rewired}
 use Rattle.board.specs.Step.{executeOf, blocked, outcomeOf, answeredOf, stepOf}
 use Rattle.board.specs.Records.{recordAt, after}
 use Rattle.timer.proofs.Pulses.{by-mode, pulsed, gated, counted, begins}
@@ -66,7 +65,7 @@ module _ (b : Board) (m : List ℕ) (n : ℕ) (few : n < 3) where
       → writesOf (b .timer) p x ≡ wroteBy (b .timer) n a
       → a .status ≡ 0
       → Holds (stepOf b (writing p x) m .board) n (a .counter)
-  unfolding stepOf answeredOf decodeOf unused writable outcomeOf blocked executeOf writeOf timerWritten rewired wroteBy
+  unfolding stepOf answeredOf decodeOf unused writable outcomeOf blocked executeOf writeOf timerWritten wroteBy
   lands p x a l h free there e ok =
       rw (
         le-ltb p 2 (omega arith),

@@ -22,14 +22,15 @@ use Rattle.icu.specs.Words as IcuWords
 use Rattle.icu.specs.Words.{ready}
 use Rattle.icu.specs.Requests.{irrOf}
 use Rattle.icu.specs.Service as IcuService
+use Rattle.cascade.specs.Cascade.{slaveIw3}
 use Rattle.timer.specs.declared.Timer.{Timer}
 use Rattle.timer.specs.Pulse.{pulseOf, gateOf}
 use Rattle.timer.specs.Timer as Timers
 use Rattle.timer.specs.Timer.{at, writesOf, readsOf}
 use Rattle.dma.specs.Registers as DmaRegisters
 use Rattle.board.specs.declared.Board.{Board}
-use Rattle.board.specs.Operations.{Outcome, done, refused, timerWritten, timerShown, dmaWritten, dmaShown, writeOf, readOf}
-use Rattle.board.specs.Wiring.{icu-is, lines, rewired}
+use Rattle.board.specs.Operations.{Outcome, a0, done, refused, slaveWritten, slaveShown, timerWritten, timerShown, dmaWritten, dmaShown, writeOf, readOf}
+use Rattle.board.specs.Wiring.{icu-is, timer-is, lines, followed}
 use Rattle.board.specs.Advance.{tickOf, advancedOf, advanceOf}
 use Rattle.board.specs.Step.{executeOf, blocked, outcomeOf, answeredOf, stepOf}
 use Rattle.tape.proofs.Decodes.{either}
@@ -68,24 +69,28 @@ module _ (b : Board) (m : List ℕ) where
 
     pub write-leaves : (p x : ℕ) → (eqb (p / 16) 1 ≡ true → f (writesOf (b .timer) p x .timer) ≡ f (b .timer))
         → f (stepOf b (writing p x) m .board .timer) ≡ f (b .timer)
-    unfolding stepOf answeredOf decodeOf unused outcomeOf executeOf writeOf timerWritten dmaWritten rewired
+    unfolding stepOf answeredOf decodeOf unused outcomeOf executeOf writeOf timerWritten dmaWritten slaveWritten
     write-leaves p x h =
         asks (writable p) (Asked (Write p x))
         (either Same (blocked b (Write p x)) (λ _. refl)
         (λ _. either Same (eqb (p / 16) 0) (λ _. refl)
         (λ _. either Same (eqb (p / 16) 1)
         (λ q. either Same (eqb (writesOf (b .timer) p x .status) 0) (λ _. h q) (λ _. refl))
-        (λ _. either Same (eqb (DmaRegisters.writeOf (b .dma) p x .status) 0) (λ _. refl) (λ _. refl)))))
+        (λ _. either Same (eqb (p / 16) 2)
+        (λ _. either Same (eqb (DmaRegisters.writeOf (b .dma) p x .status) 0) (λ _. refl) (λ _. refl))
+        (λ _. either Same (eqb (IcuWords.writeOf (b .slave) slaveIw3 (a0 p) x .status) 0) (λ _. refl) (λ _. refl))))))
 
     pub read-leaves : (p : ℕ) → f (readsOf (b .timer) p .timer) ≡ f (b .timer) → f (stepOf b (reading p) m .board .timer) ≡ f (b .timer)
-    unfolding stepOf answeredOf decodeOf unused outcomeOf executeOf readOf timerShown dmaShown
+    unfolding stepOf answeredOf decodeOf unused outcomeOf executeOf readOf timerShown dmaShown slaveShown
     read-leaves p h =
         asks (readable p) (Asked (Read p))
         (either Same (blocked b (Read p)) (λ _. refl)
         (λ _. either Same (eqb (p / 16) 0) (λ _. refl)
         (λ _. either Same (eqb (p / 16) 1)
         (λ _. either Same (eqb (readsOf (b .timer) p .status) 0) (λ _. h) (λ _. refl))
-        (λ _. either Same (eqb (DmaRegisters.readOf (b .dma) p .status) 0) (λ _. refl) (λ _. refl)))))
+        (λ _. either Same (eqb (p / 16) 2)
+        (λ _. either Same (eqb (DmaRegisters.readOf (b .dma) p .status) 0) (λ _. refl) (λ _. refl))
+        (λ _. refl)))))
 
   -- Only a reset and an advance change a counter's value.
   module _ (n : ℕ) (low : n < 3) (r : List ℕ) (no-reset : byte r 0 ≢ 0) (no-pulse : byte r 0 ≢ 5) where
@@ -111,10 +116,10 @@ module _ (b : Board) (m : List ℕ) where
 
   -- So do the levels of the gates.
   pub gates-set : (l : ℕ) → l < 8 → stepOf b (setting 1 l) m .board .timer ≡ Timers.gatesOf (b .timer) l
-  unfolding stepOf answeredOf decodeOf unused linesAsked outcomeOf executeOf blocked rewired
+  unfolding stepOf answeredOf decodeOf unused linesAsked outcomeOf executeOf blocked
   gates-set l h = rw (lt-ltb l 8 h) (go (b .dma .serving))
     where
-      go : (q : Bool) → (if q and false then refused 1 b else done (rewired (b .intp) (Timers.gatesOf (b .timer) l) b)) .board .timer ≡ Timers.gatesOf (b .timer) l
+      go : (q : Bool) → (if q and false then refused 1 b else done (followed b (timer-is (Timers.gatesOf (b .timer) l) b))) .board .timer ≡ Timers.gatesOf (b .timer) l
       go true = refl
       go false = refl
 

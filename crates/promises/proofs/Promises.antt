@@ -9,6 +9,7 @@ use Rattle.promises.proofs.Modes.{modes}
 use Rattle.promises.proofs.Waves.{waves}
 use Rattle.promises.proofs.Withdrawn.{withdrawn}
 use Rattle.promises.proofs.Meant.{meant}
+use Rattle.promises.proofs.Cascade.{cascade}
 use Rattle.promises.proofs.Worked.{worked}
 use Rattle.promises.proofs.Examples.{examples}
 
@@ -24,6 +25,7 @@ promises =
       waves = waves;
       withdrawn = withdrawn;
       meant = meant;
+      cascade = cascade;
       worked = worked;
       examples = examples;
     }

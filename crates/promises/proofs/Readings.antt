@@ -12,8 +12,10 @@ use borrow.Author.Tests.{eqb-true, eqb-false, ltb-true, ltb-false, leb-true, leb
 use Rattle.bits.specs.Choice.{if_then_else_, _and_, _or_, every}
 use Rattle.bits.specs.Bits.{bitOf, maskedOf}
 use Rattle.bits.proofs.Every.{alike}
-use Rattle.tape.specs.Records.{unused, icuPort, timerPort, dmaPort, writable, readable, pulseCount}
+use Rattle.tape.specs.Records.{unused, icuPort, timerPort, dmaPort, slavePort, writable, readable, pulseCount}
+use Rattle.icu.specs.declared.Icu.{Icu}
 use Rattle.icu.specs.Words.{ready}
+use Rattle.cascade.specs.Cascade.{masterIw3, slaveIw3}
 use Rattle.timer.specs.declared.Counter.{Counter}
 use Rattle.timer.specs.declared.Timer.{Timer}
 use Rattle.timer.specs.Modes.{moded}
@@ -27,11 +29,11 @@ use Rattle.board.specs.Step.{stepOf}
 use Rattle.tape.proofs.Decodes.{either}
 use Rattle.promises.specs.Table as Table
 use Rattle.promises.specs.Table.{among, uses, toWrite, toRead}
-use Rattle.promises.proofs.Logic.{both-left, both-right}
+use Rattle.promises.proofs.Logic.{both-left, both-right, or-false}
 use Rattle.promises.proofs.Ruled as Ruled
-use Rattle.promises.proofs.Statuses.{status-ruled}
+use Rattle.promises.proofs.Statuses.{same-unanswered, status-ruled}
 
--- Ports below 48 by a computed test; none from there on is open.
+-- Ports below 50 by a computed test; none from there on is open.
 allBelow : ℕ → List ℕ → Bool
 allBelow n [] = true
 allBelow n (y ∷ rest) = ltb y n and allBelow n rest
@@ -45,23 +47,25 @@ past n p (y ∷ rest) h q =
 
 open-write : (p : ℕ) → among p toWrite ≡ writable p
 unfolding among writable every allBelow
-open-write p = go (ltb p 48) refl
+open-write p = go (ltb p 50) refl
   where
-    go : (q : Bool) → ltb p 48 ≡ q → among p toWrite ≡ writable p
-    go true q = alike (λ p. among p toWrite) writable 48 tt p (ltb-true p 48 q)
+    go : (q : Bool) → ltb p 50 ≡ q → among p toWrite ≡ writable p
+    go true q = alike (λ p. among p toWrite) writable 50 tt p (ltb-true p 50 q)
     go false q =
-        let h = ltb-false p 48 q in
-        past 48 p toWrite h refl ∙ sym (rw (le-ltb p 2 (omega arith), le-leb 16 p (omega arith), le-ltb p 20 (omega arith), le-leb 32 p (omega arith), q) refl)
+        let h = ltb-false p 50 q in
+        past 50 p toWrite h refl
+        ∙ sym (rw (le-ltb p 2 (omega arith), le-leb 16 p (omega arith), le-ltb p 20 (omega arith), le-leb 32 p (omega arith), le-ltb p 48 (omega arith), le-leb 48 p (omega arith), q) refl)
 
 open-read : (p : ℕ) → among p toRead ≡ readable p
 unfolding among readable every allBelow
-open-read p = go (ltb p 48) refl
+open-read p = go (ltb p 50) refl
   where
-    go : (q : Bool) → ltb p 48 ≡ q → among p toRead ≡ readable p
-    go true q = alike (λ p. among p toRead) readable 48 tt p (ltb-true p 48 q)
+    go : (q : Bool) → ltb p 50 ≡ q → among p toRead ≡ readable p
+    go true q = alike (λ p. among p toRead) readable 50 tt p (ltb-true p 50 q)
     go false q =
-        let h = ltb-false p 48 q in
-        past 48 p toRead h refl ∙ sym (rw (le-ltb p 2 (omega arith), le-leb 16 p (omega arith), le-ltb p 20 (omega arith), le-leb 32 p (omega arith), q) refl)
+        let h = ltb-false p 50 q in
+        past 50 p toRead h refl
+        ∙ sym (rw (le-ltb p 2 (omega arith), le-leb 16 p (omega arith), le-ltb p 20 (omega arith), le-leb 32 p (omega arith), le-ltb p 48 (omega arith), le-leb 48 p (omega arith), q) refl)
 
 -- The bytes that an operation does not use.
 five : (a b c d e : Bool) → (a and b and c and d and e) ≡ (a and b and c and d and e and true)
@@ -112,10 +116,6 @@ same-formed r =
     two = five (zeroAt r 3) (zeroAt r 4) (zeroAt r 5) (zeroAt r 6) (zeroAt r 7)
 
 -- A last "or" of a list.
-or-false : (q : Bool) → (q or false) ≡ q
-or-false true = refl
-or-false false = refl
-
 two-of : (p q : Bool) → (p or q or false) ≡ (p or q)
 two-of true q = refl
 two-of false q = or-false q
@@ -123,6 +123,15 @@ two-of false q = or-false q
 three-of : (p q w : Bool) → (p or q or w or false) ≡ (p or q or w)
 three-of true q w = refl
 three-of false q w = two-of q w
+
+four-of : (p q w x : Bool) → (p or q or w or x or false) ≡ (p or q or w or x)
+four-of true q w x = refl
+four-of false q w x = three-of q w x
+
+-- Before the first IW1 a chip is in none of its four stages.
+same-unstarted : (c : Icu) → Table.unstarted c ≡ not (Ruled.started c)
+unfolding among
+same-unstarted c = ap not (four-of (eqb (c .stage) 1) (eqb (c .stage) 2) (eqb (c .stage) 3) (eqb (c .stage) 4))
 
 -- A counter with no mode.
 same-modeless : (t : Timer) (n : ℕ) → Table.modeless t n ≡ Ruled.modeless t n
@@ -219,47 +228,66 @@ no-timer p a b c d = go (leb 16 p) refl
 no-icu : (p : ℕ) → eqb p 0 ≡ false → eqb p 1 ≡ false → icuPort p ≡ false
 no-icu p a b = le-ltb p 2 (omega (arith, eqb-false p 0 a, eqb-false p 1 b))
 
+-- Past the slave's two ports.
+no-slave : (p : ℕ) → eqb p 48 ≡ false → eqb p 49 ≡ false → slavePort p ≡ false
+no-slave p a b = go (leb 48 p) refl
+  where
+    go : (q : Bool) → leb 48 p ≡ q → (q and ltb p 50) ≡ false
+    go true q = le-ltb p 50 (omega (arith, leb-true 48 p q, eqb-false p 48 a, eqb-false p 49 b))
+    go false q = refl
+
 module _ (b : Board) (x : ℕ) where
   -- Row 3, writes and reads.
   abbrev WriteTurn : ℕ → Type 0
   WriteTurn p =
-      (if eqb p 0 then not (bitOf x 4) and Table.unready (b .icu)
+      (if eqb p 0 then Table.wordless (b .icu) x
       else if eqb p 1 then Table.unstarted (b .icu)
+      else if eqb p 48 then Table.wordless (b .slave) x
+      else if eqb p 49 then Table.unstarted (b .slave)
       else if eqb p 16 then Table.modeless (b .timer) 0
       else if eqb p 17 then Table.modeless (b .timer) 1
       else if eqb p 18 then Table.modeless (b .timer) 2
       else eqb p 19 and Table.latchesModeless (b .timer) x)
-      ≡ (if icuPort p then Ruled.earlyWord (b .icu) (a0 p) x else timerPort p and Ruled.earlyCount (b .timer) (p % 4) x)
+      ≡ (if icuPort p then Ruled.earlyWord (b .icu) (a0 p) x
+      else if timerPort p then Ruled.earlyCount (b .timer) (p % 4) x
+      else slavePort p and Ruled.earlyWord (b .slave) (a0 p) x)
 
   write-turn : (p : ℕ) → WriteTurn p
   unfolding among
   write-turn p =
       at-port WriteTurn p 0 refl
-      (λ a. at-port WriteTurn p 1 (ap not (three-of (eqb (b .icu .stage) 1) (eqb (b .icu .stage) 2) (eqb (b .icu .stage) 3)))
-      (λ c. at-port WriteTurn p 16 (same-modeless (b .timer) 0)
+      (λ a. at-port WriteTurn p 1 (same-unstarted (b .icu))
+      (λ c. at-port WriteTurn p 48 refl
+      (λ u. at-port WriteTurn p 49 (same-unstarted (b .slave))
+      (λ v. at-port WriteTurn p 16 (same-modeless (b .timer) 0)
       (λ d. at-port WriteTurn p 17 (same-modeless (b .timer) 1)
       (λ e. at-port WriteTurn p 18 (same-modeless (b .timer) 2)
       (λ f. at-port WriteTurn p 19
       (ap (λ (q : Bool). not (eqb (x / 64) 3) and eqb (x / 16 % 4) 0 and q) (same-modeless (b .timer) (x / 64)))
-      (λ g. rw (a, c, d, e, f, g, no-icu p a c, no-timer p d e f g) refl))))))
+      (λ g. rw (a, c, u, v, d, e, f, g, no-icu p a c, no-timer p d e f g, no-slave p u v) refl))))))))
 
   abbrev ReadTurn : ℕ → Type 0
   ReadTurn p =
       (if among p (0 ∷ 1 ∷ []) then Table.unready (b .icu)
+      else if among p (48 ∷ 49 ∷ []) then Table.unready (b .slave)
       else if eqb p 16 then Table.modeless (b .timer) 0
       else if eqb p 17 then Table.modeless (b .timer) 1
       else eqb p 18 and Table.modeless (b .timer) 2)
-      ≡ (if icuPort p then not (ready (b .icu)) else timerPort p and not (eqb (p % 4) 3) and Ruled.modeless (b .timer) (p % 4))
+      ≡ (if icuPort p then not (ready (b .icu))
+      else if timerPort p then not (eqb (p % 4) 3) and Ruled.modeless (b .timer) (p % 4)
+      else slavePort p and not (ready (b .slave)))
 
   read-turn : (p : ℕ) → ReadTurn p
   unfolding among
   read-turn p =
       at-port ReadTurn p 0 refl
       (λ a. at-port ReadTurn p 1 refl
-      (λ c. at-port ReadTurn p 16 (same-modeless (b .timer) 0)
+      (λ c. at-port ReadTurn p 48 refl
+      (λ u. at-port ReadTurn p 49 refl
+      (λ v. at-port ReadTurn p 16 (same-modeless (b .timer) 0)
       (λ d. at-port ReadTurn p 17 (same-modeless (b .timer) 1)
       (λ e. at-port ReadTurn p 18 (same-modeless (b .timer) 2)
-      (λ f. at-port ReadTurn p 19 refl (λ g. rw (a, c, d, e, f, no-icu p a c, no-timer p d e f g) refl))))))
+      (λ f. at-port ReadTurn p 19 refl (λ g. rw (a, c, u, v, d, e, f, no-icu p a c, no-timer p d e f g, no-slave p u v) refl))))))))
 
   -- Row 6.
   same-one : (c : Counter) → Table.completesOne c x ≡ Ruled.completesOne c x
@@ -293,19 +321,22 @@ module _ (b : Board) (x : ℕ) where
       (λ f. at-port One p 19 refl (λ g. rw (d, e, f, no-timer p d e f g) refl))))
 
 -- Row 4, writes and reads.
-module _ (x : ℕ) where
+module _ (b : Board) (x : ℕ) where
   abbrev Unbuilt : ℕ → Type 0
   Unbuilt p =
-      (if eqb p 0 then Table.unbuiltWord x
+      (if among p (0 ∷ 48 ∷ []) then Table.unbuiltWord x
+      else if eqb p 1 then Table.otherWiring (b .icu) 128 x
+      else if eqb p 49 then Table.otherWiring (b .slave) 7 x
       else if eqb p 19 then Table.unbuiltControl x
       else if eqb p 32 then bitOf x 1
       else if eqb p 40 then Table.unbuiltDeviceControl x
       else if eqb p 41 then not (eqb x 0)
       else if eqb p 42 then Table.unbuiltMode x
       else among p (44 ∷ 45 ∷ 46 ∷ []))
-      ≡ (if icuPort p then Ruled.unbuiltWord (a0 p) x
+      ≡ (if icuPort p then Ruled.unbuiltWord (b .icu) masterIw3 (a0 p) x
       else if timerPort p then eqb (p % 4) 3 and Ruled.unbuiltControl x
-      else dmaPort p and Ruled.unbuiltRegister (p % 16) x)
+      else if dmaPort p then Ruled.unbuiltRegister (p % 16) x
+      else slavePort p and Ruled.unbuiltWord (b .slave) slaveIw3 (a0 p) x)
 
   -- The registers that are neither named by the row nor past the others: in each the two agree by computing.
   write-unbuilt : (p : ℕ) → Unbuilt p
@@ -313,7 +344,9 @@ module _ (x : ℕ) where
   write-unbuilt p =
       at-port Unbuilt p 0 refl
       (λ a. at-port Unbuilt p 1 refl
-      (λ c. at-port Unbuilt p 16 refl
+      (λ c. at-port Unbuilt p 48 refl
+      (λ s. at-port Unbuilt p 49 refl
+      (λ t. at-port Unbuilt p 16 refl
       (λ d. at-port Unbuilt p 17 refl
       (λ e. at-port Unbuilt p 18 refl
       (λ f. at-port Unbuilt p 19 refl
@@ -321,7 +354,8 @@ module _ (x : ℕ) where
       (λ p32. at-port Unbuilt p 40 (same-device x)
       (λ p40. at-port Unbuilt p 41 refl
       (λ p41. at-port Unbuilt p 42 (same-unbuilt x)
-      (λ p42. rw (a, g, p32, p40, p41, p42, no-icu p a c, no-timer p d e f g) (others p32 p40 p41 p42 (leb 32 p) (ltb p 48) refl refl)))))))))))
+      (λ p42. rw (a, c, s, t, g, p32, p40, p41, p42, no-icu p a c, no-timer p d e f g, no-slave p s t)
+      (others p32 p40 p41 p42 (leb 32 p) (ltb p 48) refl refl)))))))))))))
     where
       -- Of the registers that are left, C, D and E.
       last-three : (i : ℕ) → i < 16 → among (32 + i) (44 ∷ 45 ∷ 46 ∷ []) ≡ (leb 12 i and ltb i 15)
@@ -331,7 +365,7 @@ module _ (x : ℕ) where
           → (u v : Bool)
           → leb 32 p ≡ u
           → ltb p 48 ≡ v
-          → among p (44 ∷ 45 ∷ 46 ∷ []) ≡ ((u and v) and Ruled.unbuiltRegister (p % 16) x)
+          → among p (44 ∷ 45 ∷ 46 ∷ []) ≡ (if u and v then Ruled.unbuiltRegister (p % 16) x else false)
       others h0 h8 h9 h10 true true l u =
           let i = leb-true 32 p l in
           let j = ltb-true p 48 u in
@@ -384,12 +418,12 @@ module _ (b : Board) (r : List ℕ) where
   same-turn : Table.outOfTurn b r ≡ Ruled.outOfTurn b r
   unfolding Table.outOfTurn Ruled.outOfTurn
   same-turn =
-      rows (eqb (getD r 0 0) 1) (write-turn b (getD r 2 0) (getD r 1 0)) (rows (eqb (getD r 0 0) 2) (read-turn b (getD r 2 0) (getD r 1 0)) refl)
+      rows (eqb (getD r 0 0) 1) (write-turn b (getD r 2 0) (getD r 1 0)) (rows (eqb (getD r 0 0) 2) (read-turn b (getD r 2 0) (getD r 1 0)) (ap (λ (q : Bool). eqb (getD r 0 0) 4 and q) (same-unanswered b)))
 
-  same-unbuilt-row : Table.notBuilt r ≡ Ruled.notBuilt b r
+  same-unbuilt-row : Table.notBuilt b r ≡ Ruled.notBuilt b r
   unfolding Table.notBuilt Ruled.notBuilt
   same-unbuilt-row =
-      rows (eqb (getD r 0 0) 1) (write-unbuilt (getD r 2 0) (getD r 1 0)) (ap (λ (q : Bool). eqb (getD r 0 0) 2 and q) (read-unbuilt (getD r 1 0)))
+      rows (eqb (getD r 0 0) 1) (write-unbuilt b (getD r 2 0) (getD r 1 0)) (ap (λ (q : Bool). eqb (getD r 0 0) 2 and q) (read-unbuilt (getD r 1 0)))
 
   same-count : Table.countsOne b r ≡ Ruled.countsOne b r
   unfolding Table.countsOne Ruled.countsOne

@@ -10,7 +10,7 @@ use lib.ListN.{getD}
 use lib.Bits.{bitAnd, bitOr, and-le-l, and-shr, and-mod, or-shr, or-mod}
 use borrow.Author.Tests.{eqb-true, ltb-true, lt-ltb, eq-eqb, ne-eqb}
 use Rattle.bits.specs.Choice.{if_then_else_, _and_, _or_, every, some}
-use Rattle.bits.specs.Bits.{bitOf, maskedOf}
+use Rattle.bits.specs.Bits.{bitOf, withOf, maskedOf}
 use Rattle.bits.proofs.Every.{below, alike, same, some-true, every-true}
 use Rattle.tape.specs.Records.{unused, linesAsked, decodeOf}
 use Rattle.icu.specs.declared.Icu.{Icu}
@@ -18,11 +18,12 @@ use Rattle.icu.specs.Fields.{edges-is}
 use Rattle.icu.specs.Ranks.{rankOf, outranks}
 use Rattle.icu.specs.Words.{ready, lev}
 use Rattle.icu.specs.Requests.{irrOf, askedOf, outranksAll, intOf, rises, falls, linesOf}
+use Rattle.cascade.specs.Cascade.{joinedOf}
 use Rattle.timer.specs.declared.Timer.{Timer}
 use Rattle.timer.specs.Timer.{at}
 use Rattle.board.specs.declared.Board.{Board}
 use Rattle.board.specs.Operations.{done, refused}
-use Rattle.board.specs.Wiring.{linesBy, linesAt, lines, int, rewired}
+use Rattle.board.specs.Wiring.{icu-is, intp-is, linesBy, linesAt, joined, lines, int, followed}
 use Rattle.board.specs.Step.{executeOf, blocked, outcomeOf, answeredOf, stepOf}
 use Rattle.promises.specs.Records.{reading, setting}
 use Rattle.promises.specs.Words.{requested, lineHigh, askedFor}
@@ -30,8 +31,8 @@ use Rattle.promises.specs.Reached.{Reached}
 use Rattle.promises.specs.Meant.{Outranking}
 use Rattle.promises.proofs.Logic.{both-left, both-right, both, each-true}
 use Rattle.promises.proofs.IcuKept.{found}
-use Rattle.promises.proofs.BoardKept.{reached-held}
-use Rattle.promises.proofs.Sizes.{lines-small, reached-typed}
+use Rattle.promises.proofs.BoardKept.{Held, reached-held}
+use Rattle.promises.proofs.Sizes.{Sized, joined-small, lines-small, reached-keeps}
 use Rattle.promises.proofs.Highest.{rank-before, cleared, added}
 use Rattle.promises.proofs.Plain.{irr-read}
 
@@ -98,18 +99,51 @@ pub line-bit : (i k : ℕ) (t : Timer) → i < 256 → k < 8 → bitOf (linesAt 
 unfolding linesAt
 line-bit i k t h l = line-by i k (at t 0 .out) h l
 
+-- INTP with the slave's INT on line 7, line by line.
+pub joined-line : (i : ℕ) (s : Icu) (x k : ℕ) → i < 256 → k < 8 → bitOf (joinedOf i s x) k ≡ (bitOf i k or (eqb k 7 and intOf s x))
+unfolding joinedOf
+joined-line i s x k h l = go (intOf s x)
+  where
+    none : (p q : Bool) → p ≡ (p or (q and false))
+    none true true = refl
+    none true false = refl
+    none false true = refl
+    none false false = refl
+
+    one : (p q : Bool) → (p or q) ≡ (p or (q and true))
+    one true q = refl
+    one false true = refl
+    one false false = refl
+
+    go : (q : Bool) → bitOf (if q then withOf i 7 else i) k ≡ (bitOf i k or (eqb k 7 and q))
+    go true = added i 7 k h (omega arith) l ∙ one (bitOf i k) (eqb k 7)
+    go false = none (bitOf i k) (eqb k 7)
+
+joined-high : (i : ℕ) (s : Icu) (x k : ℕ) → i < 256 → k < 8 → bitOf i k ≡ true → bitOf (joinedOf i s x) k ≡ true
+joined-high i s x k h l hi = joined-line i s x k h l ∙ rw hi
+
 -- What of a board's numbers the interrupt chip's laws need, at the end of any record.
 pub record Fit (b : Board) : Type 0 where
   pub intp : b .intp < 256
+  pub wires : joined b < 256
   pub edges : b .icu .edges < 256
   pub isr : b .icu .isr < 256
   pub imr : b .icu .imr < 256
   pub lowest : b .icu .lowest < 8
 
+pub fit-of : (b : Board) → Held b → Sized b → Fit b
+fit-of b h z =
+    record {
+      intp = z .intp;
+      wires = joined-small (b .intp) (b .slave) (b .slaveintp) (z .intp);
+      edges = z .icu .3;
+      isr = h .icu .isr;
+      imr = z .icu .2;
+      lowest = h .icu .lowest;
+    }
+
 pub reached-fit : {b : Board} → Reached b → Fit b
-reached-fit r =
-    let t = reached-typed r in
-    record { intp = t .intp; edges = t .edges; isr = t .isr; imr = t .imr; lowest = reached-held r .icu .lowest }
+reached-fit {b} r = fit-of b (reached-held r) (reached-keeps r .sized)
 
 module _ (b : Board) (f : Fit b) where
   pub irr-bit : (k : ℕ) → k < 8 → bitOf (irrOf (b .icu) (lines b)) k ≡ requested b k
@@ -117,7 +151,7 @@ module _ (b : Board) (f : Fit b) where
   irr-bit k l = go (lev (b .icu))
     where
       go : (q : Bool) → bitOf (if q then lines b else b .icu .edges) k ≡ (if q then lineHigh b k else bitOf (b .icu .edges) k)
-      go true = line-bit (b .intp) k (b .timer) (f .intp) l
+      go true = line-bit (joined b) k (b .timer) (f .wires) l
       go false = refl
 
   pub asked-bit : (k : ℕ) → k < 8 → bitOf (askedOf (b .icu) (lines b)) k ≡ askedFor b k
@@ -126,62 +160,59 @@ module _ (b : Board) (f : Fit b) where
       masked-bit (irrOf (b .icu) (lines b)) (b .icu .imr) k (f .imr) l
       ∙ ap (λ (q : Bool). q and not (bitOf (b .icu .imr) k)) (irr-bit k l)
 
-  -- INT.
+-- INT of a chip with some lines, by the levels that are asked for.
+module _ (c : Icu) (x : ℕ) (wanted : ℕ → Bool) (lowest : c .lowest < 8) (bits : (k : ℕ) → k < 8 → bitOf (askedOf c x) k ≡ wanted k) where
   abbrev test : ℕ → ℕ → Bool
-  test n m = if bitOf (b .icu .isr) m then outranks (b .icu .lowest) n m else true
+  test n m = if bitOf (c .isr) m then outranks (c .lowest) n m else true
 
-  low : b .icu .lowest < 8
-  low = f .lowest
-
-  outranking : int b ≡ true → Outranking b
-  unfolding intOf low
+  outranking : intOf c x ≡ true → Outranking wanted c
+  unfolding intOf
   outranking h =
-      let w = found (λ n. bitOf (askedOf (b .icu) (lines b)) n and outranksAll (b .icu) n) 8 (both-right (ready (b .icu)) _ h) in
+      let w = found (λ n. bitOf (askedOf c x) n and outranksAll c n) 8 (both-right (ready c) _ h) in
       let n = w .0 in
-      let a = both-left (bitOf (askedOf (b .icu) (lines b)) n) (outranksAll (b .icu) n) (w .2) in
-      let o = both-right (bitOf (askedOf (b .icu) (lines b)) n) (outranksAll (b .icu) n) (w .2) in
+      let a = both-left (bitOf (askedOf c x) n) (outranksAll c n) (w .2) in
+      let o = both-right (bitOf (askedOf c x) n) (outranksAll c n) (w .2) in
       record {
         level = n;
         low = w .1;
-        asked = sym (asked-bit n (w .1)) ∙ a;
+        asked = sym (bits n (w .1)) ∙ a;
         over = λ k l s.
             omega (
               arith,
-              ltb-true (rankOf (b .icu .lowest) n) (rankOf (b .icu .lowest) k) (rw s at (each-true (test n) 8 o k l)),
-              rank-before (b .icu .lowest) n low (w .1),
-              rank-before (b .icu .lowest) k low l,
+              ltb-true (rankOf (c .lowest) n) (rankOf (c .lowest) k) (rw s at (each-true (test n) 8 o k l)),
+              rank-before (c .lowest) n lowest (w .1),
+              rank-before (c .lowest) k lowest l,
             );
       }
 
-  outranked : Outranking b → some (λ n. bitOf (askedOf (b .icu) (lines b)) n and outranksAll (b .icu) n) 8 ≡ true
-  unfolding low
+  outranked : Outranking wanted c → some (λ n. bitOf (askedOf c x) n and outranksAll c n) 8 ≡ true
   outranked o =
-      some-true (λ n. bitOf (askedOf (b .icu) (lines b)) n and outranksAll (b .icu) n) 8 (o .level) (o .low)
-      (both (bitOf (askedOf (b .icu) (lines b)) (o .level)) (outranksAll (b .icu) (o .level)) (asked-bit (o .level) (o .low) ∙ o .asked)
-      (every-true (test (o .level)) 8 (λ m l. go m l (bitOf (b .icu .isr) m) refl)))
+      some-true (λ n. bitOf (askedOf c x) n and outranksAll c n) 8 (o .level) (o .low)
+      (both (bitOf (askedOf c x) (o .level)) (outranksAll c (o .level)) (bits (o .level) (o .low) ∙ o .asked)
+      (every-true (test (o .level)) 8 (λ m l. go m l (bitOf (c .isr) m) refl)))
     where
-      go : (m : ℕ) → m < 8 → (q : Bool) → bitOf (b .icu .isr) m ≡ q → (if q then outranks (b .icu .lowest) (o .level) m else true) ≡ true
+      go : (m : ℕ) → m < 8 → (q : Bool) → bitOf (c .isr) m ≡ q → (if q then outranks (c .lowest) (o .level) m else true) ≡ true
       go m l true q =
-          lt-ltb (rankOf (b .icu .lowest) (o .level)) (rankOf (b .icu .lowest) m)
-          (omega (arith, o .over m l q, rank-before (b .icu .lowest) (o .level) low (o .low), rank-before (b .icu .lowest) m low l))
+          lt-ltb (rankOf (c .lowest) (o .level)) (rankOf (c .lowest) m)
+          (omega (arith, o .over m l q, rank-before (c .lowest) (o .level) lowest (o .low), rank-before (c .lowest) m lowest l))
       go m l false q = refl
 
-  int-by-rank : (int b ≡ true) ↔ ((b .icu .stage ≡ 3) × Outranking b)
+  pub int-by-rank : (intOf c x ≡ true) ↔ ((c .stage ≡ 3) × Outranking wanted c)
   unfolding intOf
   int-by-rank = (
-    λ h. (eqb-true (b .icu .stage) 3 (both-left (ready (b .icu)) _ h), outranking h),
-    λ z. both (ready (b .icu)) (some (λ n. bitOf (askedOf (b .icu) (lines b)) n and outranksAll (b .icu) n) 8) (eq-eqb (b .icu .stage) 3 (z .0)) (outranked (z .1)),
+    λ h. (eqb-true (c .stage) 3 (both-left (ready c) _ h), outranking h),
+    λ z. both (ready c) (some (λ n. bitOf (askedOf c x) n and outranksAll c n) 8) (eq-eqb (c .stage) 3 (z .0)) (outranked (z .1)),
   )
 
-pub int-rule : {b : Board} → Reached b → (int b ≡ true) ↔ ((b .icu .stage ≡ 3) × Outranking b)
-int-rule {b} r = int-by-rank b (reached-fit r)
+pub int-rule : {b : Board} → Reached b → (int b ≡ true) ↔ ((b .icu .stage ≡ 3) × Outranking (askedFor b) (b .icu))
+int-rule {b} r = let f = reached-fit r in int-by-rank (b .icu) (lines b) (askedFor b) (f .lowest) (asked-bit b f)
 
 -- The lines as a record sets them, and the chip that sees them.
-set-lines : (b : Board) (m : List ℕ) (l : ℕ) → l % 2 ≡ 0 → stepOf b (setting 0 l) m .board ≡ rewired l (b .timer) b
+set-lines : (b : Board) (m : List ℕ) (l : ℕ) → l % 2 ≡ 0 → stepOf b (setting 0 l) m .board ≡ followed b (intp-is l b)
 unfolding stepOf answeredOf decodeOf unused linesAsked outcomeOf executeOf blocked
 set-lines b m l e = rw (eq-eqb (l % 2) 0 e) (go (b .dma .serving))
   where
-    go : (q : Bool) → (if q and false then refused 1 b else done (rewired l (b .timer) b)) .board ≡ rewired l (b .timer) b
+    go : (q : Bool) → (if q and false then refused 1 b else done (followed b (intp-is l b))) .board ≡ followed b (intp-is l b)
     go true = refl
     go false = refl
 
@@ -257,23 +288,28 @@ module _ (c : Icu) (was now : ℕ) (small : now < 256) where
 
 pub masked-rise-shows : {b : Board} → Reached b → (m : List ℕ) → b .dma .serving ≡ false → ready (b .icu) ≡ true → b .icu .showsisr ≡ false
     → (l k : ℕ) → l < 256 → l % 2 ≡ 0 → 1 ≤ k → k < 8
-    → bitOf (b .intp) k ≡ false
+    → lineHigh b k ≡ false
     → bitOf l k ≡ true
     → bitOf (getD (stepOf (stepOf b (setting 0 l) m .board) (reading 0) m .answer) 2 0) k ≡ true
-unfolding rewired
 masked-rise-shows {b} r m free set irr l k hl even one hk lo hi =
     ap (λ (d : Board). bitOf (getD (stepOf d (reading 0) m .answer) 2 0) k) (set-lines b m l even)
     ∙ ap (λ (x : ℕ). bitOf x k)
-    (irr-read (rewired l (b .timer) b) m free (ap (λ (s : ℕ). eqb s 3) (stage-stays (b .icu) was now small) ∙ set) (shows-stays (b .icu) was now small ∙ irr))
-    ∙ risen-bit (b .icu) was now small k (lines-small (b .intp) (b .timer) (reached-typed r .intp)) hk set
-    (line-bit (b .intp) k (b .timer) (reached-typed r .intp) hk ∙ rw (ne-eqb k 0 (omega arith)) lo)
-    (line-bit l k (b .timer) hl hk ∙ rw (ne-eqb k 0 (omega arith)) hi)
+    (irr-read (followed b (intp-is l b)) m free (ap (λ (s : ℕ). eqb s 3) (stage-stays (b .icu) was now small) ∙ set) (shows-stays (b .icu) was now small ∙ irr))
+    ∙ risen-bit (b .icu) was now small k (lines-small (joined b) (b .timer) (fit .wires)) hk set
+    (line-bit (joined b) k (b .timer) (fit .wires) hk ∙ lo)
+    (line-bit (joined (intp-is l b)) k (b .timer) wired hk ∙ rw (ne-eqb k 0 (omega arith)) (joined-high l (b .slave) (b .slaveintp) k hl hk hi))
   where
     was : ℕ
     was = lines b
 
     now : ℕ
-    now = linesAt l (b .timer)
+    now = lines (intp-is l b)
+
+    fit : Fit b
+    fit = reached-fit r
+
+    wired : joined (intp-is l b) < 256
+    wired = joined-small l (b .slave) (b .slaveintp) hl
 
     small : now < 256
-    small = lines-small l (b .timer) hl
+    small = lines-small (joined (intp-is l b)) (b .timer) wired

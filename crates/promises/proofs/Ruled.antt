@@ -5,9 +5,10 @@ use Prim.Native.Nat.{ℕ, _+_, _*_, _%_}
 use lib.Dec.{eqb, ltb, leb}
 use Rattle.bits.specs.Choice.{if_then_else_, _and_, _or_}
 use Rattle.bits.specs.Bits.{bitOf, maskedOf}
-use Rattle.tape.specs.Records.{byte, unused, icuPort, timerPort, dmaPort, writable, readable, pulseCount}
+use Rattle.tape.specs.Records.{byte, unused, icuPort, timerPort, dmaPort, slavePort, writable, readable, pulseCount}
 use Rattle.icu.specs.declared.Icu.{Icu}
 use Rattle.icu.specs.Words.{ready, setsExceptional}
+use Rattle.cascade.specs.Cascade.{masterIw3, slaveIw3, answered}
 use Rattle.timer.specs.declared.Counter.{Counter}
 use Rattle.timer.specs.declared.Timer.{Timer}
 use Rattle.timer.specs.Modes.{modeOf, moded}
@@ -31,7 +32,7 @@ datum r = byte r 2
 -- group is known and no unused level bit is set, there are at most 65,535 pulses, and END is 0 or 1.
 unfoldable pub levelsFit : ℕ → ℕ → Bool
 levelsFit group levels =
-    if eqb group 0 then eqb (levels % 2) 0 else if eqb group 1 then ltb levels 8 else if eqb group 2 then ltb levels 16 else false
+    if eqb group 0 then eqb (levels % 2) 0 else if eqb group 1 then ltb levels 8 else if eqb group 2 then ltb levels 16 else eqb group 3
 
 unfoldable pub formed : List ℕ → Bool
 formed r =
@@ -48,9 +49,9 @@ formed r =
 unfoldable pub held : Board → List ℕ → Bool
 held b r = b .dma .serving and (eqb (op r) 1 or eqb (op r) 2 or eqb (op r) 4)
 
--- Row 3, a word for the interrupt chip: until it is ready, a write at A0=0 with D4=0; before the first IW1, a write at A0=1.
+-- Row 3, a word for an interrupt chip: until it is ready, a write at A0=0 with D4=0; before the first IW1, a write at A0=1.
 abbrev pub started : Icu → Bool
-started c = eqb (c .stage) 1 or eqb (c .stage) 2 or ready c
+started c = eqb (c .stage) 1 or eqb (c .stage) 2 or ready c or eqb (c .stage) 4
 
 abbrev pub earlyWord : Icu → Bool → ℕ → Bool
 earlyWord c high x = if high then not (started c) else not (bitOf x 4) and not (ready c)
@@ -64,20 +65,23 @@ abbrev pub earlyCount : Timer → ℕ → ℕ → Bool
 earlyCount t a x =
     if eqb a 3 then not (eqb (SC x) 3) and eqb (RWM x) 0 and modeless t (SC x) else modeless t a
 
--- Row 3: out of turn. The interrupt chip's reads and acknowledge wait until it is ready too.
+-- Row 3: out of turn. An interrupt chip's reads wait until it is ready too, and an acknowledge until the set-ups of the two answer one.
 unfoldable pub outOfTurn : Board → List ℕ → Bool
 outOfTurn b r =
     if eqb (op r) 1 then
     (if icuPort (port r) then earlyWord (b .icu) (a0 (port r)) (datum r)
-    else timerPort (port r) and earlyCount (b .timer) (port r % 4) (datum r))
+    else if timerPort (port r) then earlyCount (b .timer) (port r % 4) (datum r)
+    else slavePort (port r) and earlyWord (b .slave) (a0 (port r)) (datum r))
     else if eqb (op r) 2 then
-    (if icuPort (port r) then not (ready (b .icu)) else timerPort (port r) and not (eqb (port r % 4) 3) and modeless (b .timer) (port r % 4))
-    else eqb (op r) 4 and not (ready (b .icu))
+    (if icuPort (port r) then not (ready (b .icu))
+    else if timerPort (port r) then not (eqb (port r % 4) 3) and modeless (b .timer) (port r % 4)
+    else slavePort (port r) and not (ready (b .slave)))
+    else eqb (op r) 4 and not (answered (b .icu) (b .slave))
 
--- Row 4, the interrupt chip at A0=0: IW1 with D1=0; MCW with POL=1, or with SNW=1 and EXCN=1.
-abbrev pub unbuiltWord : Bool → ℕ → Bool
-unbuiltWord high x =
-    not high and (if bitOf x 4 then not (bitOf x 1) else bitOf x 3 and (bitOf x 2 or setsExceptional x))
+-- Row 4, an interrupt chip, at A0=0: MCW with POL=1, or with SNW=1 and EXCN=1; at A0=1, while IW3 is awaited: any but w, the one that fits.
+abbrev pub unbuiltWord : Icu → ℕ → Bool → ℕ → Bool
+unbuiltWord c w high x =
+    if high then eqb (c .stage) 4 and not (eqb x w) else not (bitOf x 4) and bitOf x 3 and (bitOf x 2 or setsExceptional x)
 
 -- Row 4, the timer's control word: counter 11; otherwise, unless a latch, BCD.
 abbrev pub unbuiltControl : ℕ → Bool
@@ -96,9 +100,10 @@ unbuiltRegister n x =
 unfoldable pub notBuilt : Board → List ℕ → Bool
 notBuilt b r =
     if eqb (op r) 1 then
-    (if icuPort (port r) then unbuiltWord (a0 (port r)) (datum r)
+    (if icuPort (port r) then unbuiltWord (b .icu) masterIw3 (a0 (port r)) (datum r)
     else if timerPort (port r) then eqb (port r % 4) 3 and unbuiltControl (datum r)
-    else dmaPort (port r) and unbuiltRegister (port r % 16) (datum r))
+    else if dmaPort (port r) then unbuiltRegister (port r % 16) (datum r)
+    else slavePort (port r) and unbuiltWord (b .slave) slaveIw3 (a0 (port r)) (datum r))
     else eqb (op r) 2 and dmaPort (port r) and leb 12 (port r % 16) and ltb (port r % 16) 15
 
 -- Row 6: a count byte that completes a count below the mode's minimum.

@@ -101,23 +101,26 @@ un-not : (p : Bool) → not p ≡ true → p ≡ false
 un-not true h = absurd (false≢true h)
 un-not false h = refl
 
--- The five tests of a board.
+-- The six tests of a board.
 pub tests : (b : Board) → inRange b ≡ true
     → (ltb (b .kept .length) 8 ≡ true)
     × (eqb (b .intp % 2) 0 ≡ true)
     × (icuGood (b .icu) ≡ true)
+    × (icuGood (b .slave) ≡ true)
     × (timerGood (b .timer) ≡ true)
     × (dmaGood (b .dma) ≡ true)
 unfolding inRange
 tests b h =
     let h1 = both-right (ltb (b .kept .length) 8) _ h in
     let h2 = both-right (eqb (b .intp % 2) 0) _ h1 in
-    let h3 = both-right (icuGood (b .icu)) _ h2 in (
+    let h3 = both-right (icuGood (b .icu)) _ h2 in
+    let h4 = both-right (icuGood (b .slave)) _ h3 in (
       both-left (ltb (b .kept .length) 8) _ h,
       both-left (eqb (b .intp % 2) 0) _ h1,
       both-left (icuGood (b .icu)) _ h2,
-      both-left (timerGood (b .timer)) _ h3,
-      both-right (timerGood (b .timer)) _ h3,
+      both-left (icuGood (b .slave)) _ h3,
+      both-left (timerGood (b .timer)) _ h4,
+      both-right (timerGood (b .timer)) _ h4,
     )
 
 module _ (b : Board) (t : Typed b) where
@@ -140,7 +143,7 @@ module _ (b : Board) (t : Typed b) where
   unfolding dmaGood channelsGood
   sound-of h =
       let d = b .dma in
-      let h4 = tests b h .4 in
+      let h4 = tests b h .5 in
       let h5 = both-right (ltb (d .selected) 4) _ h4 in
       let h6 = both-right (ltb (d .first) 4) _ h5 in
       let h7 = both-right (ltb (d .channel) 4) _ h6 in

@@ -11,16 +11,17 @@ use lib.Seq.{getD-set-same, getD-set-other, set-out}
 use borrow.Author.Tests.{eqb-true, eqb-false, ltb-true, ltb-false}
 use Rattle.bits.specs.Choice.{_and_}
 use Rattle.bits.specs.Bits.{bitOf, maskedOf}
-use Rattle.tape.specs.declared.Operation.the-variants.{Reset, Write, Read, Intp, Gates, Requests, Acknowledge, Advance, Cycle}
+use Rattle.tape.specs.declared.Operation.the-variants.{Reset, Write, Read, Intp, Gates, Requests, SlaveIntp, Acknowledge, Advance, Cycle}
 use Rattle.tape.specs.declared.Decoded.{Decoded}
 use Rattle.tape.specs.Records.{byte, decodeOf, pulseCount}
-use Rattle.tape.proofs.Decodes.{either, Decodes, malformed, reset, write, read, intp, gates, requests, acknowledge, advance, cycle, decodes}
+use Rattle.tape.proofs.Decodes.{either, Decodes, malformed, reset, write, read, intp, gates, requests, slave-intp, acknowledge, advance, cycle, decodes}
 use Rattle.icu.specs.declared.Icu.{Icu}
 use Rattle.icu.specs.Answers.{Told}
 use Rattle.icu.specs.Words as Words
-use Rattle.icu.specs.Words.{ready, lev, i4, setsExceptional}
+use Rattle.icu.specs.Words.{ready, lev, sngl, i4, setsExceptional}
 use Rattle.icu.specs.Requests.{intOf, rises, falls, linesOf}
 use Rattle.icu.specs.Service as Service
+use Rattle.cascade.specs.Cascade.{slaveIw3, joinedOf, answered, passedOn}
 use Rattle.timer.specs.declared.Counter.{Counter}
 use Rattle.timer.specs.declared.Timer.{Timer}
 use Rattle.timer.specs.declared.Written.{Written}
@@ -38,19 +39,19 @@ use Rattle.dma.specs.Fields.{none, chan}
 use Rattle.dma.specs.Registers as Registers
 use Rattle.dma.specs.Cycle as DmaCycle
 use Rattle.board.specs.declared.Board.{Board}
-use Rattle.board.specs.Operations.{Outcome, a0, timerWritten, timerShown, dmaWritten, dmaShown, writeOf, readOf, cycleOf}
-use Rattle.board.specs.Wiring.{freshOf, linesBy, lines, linesAt, rewired}
+use Rattle.board.specs.Operations.{Outcome, a0, slaveWritten, slaveShown, slaveGives, acknowledgeOf, timerWritten, timerShown, dmaWritten, dmaShown, writeOf, readOf, cycleOf}
+use Rattle.board.specs.Wiring.{freshOf, icu-is, intp-is, slave-is, timer-is, dma-is, linesBy, joined, lines, linesAt, followed}
 use Rattle.board.specs.Advance.{tickOf, advancedOf, advanceOf}
 use Rattle.board.specs.Step.{executeOf, blocked, outcomeOf, answeredOf, stepOf}
 use Rattle.board.specs.Records.{recordAt, after}
 use Rattle.intake.specs.declared.Fed.{Fed}
 use Rattle.intake.specs.Records.{restAt}
 use Rattle.intake.specs.Feed.{bytesOf, countOf, taken, fedOf}
-use Rattle.promises.specs.Reached.{Bytes, Reached, unfed, fed, Typed}
+use Rattle.promises.specs.Reached.{Bytes, Reached, unfed, fed, TypedIcu, Typed}
 use Rattle.promises.proofs.Logic.{both-left, both-right}
 use Rattle.timer.proofs.Pulses.{Counts, stays, one-less, two-less, loads, loads-even, pulsed, gated, counted, begins}
 use Rattle.promises.proofs.Ruled.{tooSmall}
-use Rattle.promises.proofs.IcuKept.{with-byte, without-byte}
+use Rattle.promises.proofs.IcuKept.{Fine, with-byte, without-byte}
 use Rattle.promises.proofs.Change.{moved-mode}
 use Rattle.promises.proofs.Sound.{Sound}
 use Rattle.promises.proofs.BoardKept.{Held, reached-held}
@@ -65,12 +66,14 @@ module _ (c : Icu) (s : SmallIcu c) where
   P t = SmallIcu (t .icu)
 
   module _ (x : ℕ) (h : x < 256) where
-    later-small : P (Words.laterWord c x)
+    later-small : (w : ℕ) → P (Words.laterWord c w x)
     unfolding Words.laterWord
-    later-small =
+    later-small w =
         either P (ready c) (λ _. (s .0, s .1, h, s .3))
-        (λ _. either P (eqb (c .stage) 1) (λ _. either SmallIcu (i4 c) (λ _. (s .0, h, s .2, s .3)) (λ _. (s .0, h, s .2, s .3)))
-        (λ _. either P (eqb (c .stage) 2) (λ _. s) (λ _. s)))
+        (λ _. either P (eqb (c .stage) 1)
+        (λ _. either SmallIcu (sngl c) (λ _. either SmallIcu (i4 c) (λ _. (s .0, h, s .2, s .3)) (λ _. (s .0, h, s .2, s .3))) (λ _. (s .0, h, s .2, s .3)))
+        (λ _. either P (eqb (c .stage) 4) (λ _. either P (eqb x w) (λ _. either SmallIcu (i4 c) (λ _. s) (λ _. s)) (λ _. s))
+        (λ _. either P (eqb (c .stage) 2) (λ _. s) (λ _. s))))
 
     mcw-small : P (Words.mcw c x)
     unfolding Words.mcw
@@ -95,14 +98,14 @@ module _ (c : Icu) (s : SmallIcu c) where
         by false false false = s
         by false true false = s
 
-    icu-write : (k : Bool) → P (Words.writeOf c k x)
+    icu-write : (w : ℕ) (k : Bool) → P (Words.writeOf c w k x)
     unfolding Words.writeOf Words.iw1
-    icu-write k =
-        either P k (λ _. later-small)
-        (λ _. either P (bitOf x 4) (λ _. either P (bitOf x 1) (λ _. (h, s .1, omega arith, omega arith)) (λ _. s))
+    icu-write w k =
+        either P k (λ _. later-small w)
+        (λ _. either P (bitOf x 4) (λ _. (h, s .1, omega arith, omega arith))
         (λ _. either P (ready c) (λ _. either P (bitOf x 3) (λ _. mcw-small) (λ _. pfcw-small)) (λ _. s)))
 
-  served-small : (n : ℕ) → SmallIcu (Service.servedOf c n)
+  pub served-small : (n : ℕ) → SmallIcu (Service.servedOf c n)
   unfolding Service.servedOf
   served-small n =
       let e = without-byte (c .edges) n (s .3) in
@@ -341,11 +344,17 @@ module _ (d : Dma) (s : SmallDma d) where
 pub record Sized (b : Board) : Type 0 where
   pub icu : SmallIcu (b .icu)
   pub intp : b .intp < 256
+  pub slave : SmallIcu (b .slave)
+  pub slaveintp : b .slaveintp < 256
   pub timer : SmallTimer (b .timer)
   pub dma : SmallDma (b .dma)
 
 pub lines-by-small : (i : ℕ) (q : Bool) → i < 256 → linesBy i q < 256
 lines-by-small i q h = either (λ (x : ℕ). x < 256) q (λ _. with-byte i 0 h (omega arith)) (λ _. without-byte i 0 h)
+
+pub joined-small : (i : ℕ) (s : Icu) (x : ℕ) → i < 256 → joinedOf i s x < 256
+unfolding joinedOf
+joined-small i s x h = either (λ (y : ℕ). y < 256) (intOf s x) (λ _. with-byte i 7 h (omega arith)) (λ _. h)
 
 pub lines-small : (i : ℕ) (t : Timer) → i < 256 → linesAt i t < 256
 unfolding linesAt
@@ -364,36 +373,68 @@ module _ (b : Board) (s : Sized b) where
   abbrev B : Outcome → Type 0
   B o = Sized (o .board)
 
-  with-icu : (c : Icu) → SmallIcu c → Sized (record { icu = c; intp = b .intp; timer = b .timer; dma = b .dma; kept = b .kept })
-  with-icu c h = record { icu = h; intp = s .intp; timer = s .timer; dma = s .dma }
+  with-icu : (c : Icu) → SmallIcu c → Sized (icu-is c b)
+  with-icu c h = record { icu = h; intp = s .intp; slave = s .slave; slaveintp = s .slaveintp; timer = s .timer; dma = s .dma }
 
-  with-timer : (t : Timer) → SmallTimer t → Sized (record { icu = b .icu; intp = b .intp; timer = t; dma = b .dma; kept = b .kept })
-  with-timer t h = record { icu = s .icu; intp = s .intp; timer = h; dma = s .dma }
+  with-slave : (c : Icu) (x : ℕ) → SmallIcu c → x < 256 → Sized (slave-is c x b)
+  with-slave c x h l = record { icu = s .icu; intp = s .intp; slave = h; slaveintp = l; timer = s .timer; dma = s .dma }
 
-  with-dma : (d : Dma) → SmallDma d → Sized (record { icu = b .icu; intp = b .intp; timer = b .timer; dma = d; kept = b .kept })
-  with-dma d h = record { icu = s .icu; intp = s .intp; timer = s .timer; dma = h }
+  with-timer : (t : Timer) → SmallTimer t → Sized (timer-is t b)
+  with-timer t h = record { icu = s .icu; intp = s .intp; slave = s .slave; slaveintp = s .slaveintp; timer = h; dma = s .dma }
 
-  rewired-small : (l : ℕ) (t : Timer) → l < 256 → SmallTimer t → Sized (rewired l t b)
-  unfolding rewired
-  rewired-small l t h f = record { icu = icu-lines (b .icu) (s .icu) (lines b) (linesAt l t) (lines-small l t h); intp = h; timer = f; dma = s .dma }
+  with-dma : (d : Dma) → SmallDma d → Sized (dma-is d b)
+  with-dma d h = record { icu = s .icu; intp = s .intp; slave = s .slave; slaveintp = s .slaveintp; timer = s .timer; dma = h }
+
+  -- The master follows what became of the rest of the board.
+  followed-small : (d : Board) → Sized d → Sized (followed b d)
+  followed-small d k =
+      record {
+        icu = icu-lines (d .icu) (k .icu) (lines b) (lines d) (lines-small (joined d) (d .timer) (joined-small (d .intp) (d .slave) (d .slaveintp) (k .intp)));
+        intp = k .intp;
+        slave = k .slave;
+        slaveintp = k .slaveintp;
+        timer = k .timer;
+        dma = k .dma;
+      }
 
   board-write : (p x : ℕ) → x < 256 → B (writeOf b p x)
-  unfolding writeOf timerWritten dmaWritten
+  unfolding writeOf timerWritten dmaWritten slaveWritten
   board-write p x h =
-      either B (eqb (p / 16) 0) (λ _. with-icu _ (icu-write (b .icu) (s .icu) x h (a0 p)))
+      either B (eqb (p / 16) 0) (λ _. with-icu _ (icu-write (b .icu) (s .icu) x h 128 (a0 p)))
       (λ _. either B (eqb (p / 16) 1)
       (λ _. either B (eqb (writesOf (b .timer) p x .status) 0)
-      (λ _. rewired-small (b .intp) _ (s .intp) (timer-write (b .timer) (s .timer) p x h))
+      (λ _. followed-small _ (with-timer _ (timer-write (b .timer) (s .timer) p x h)))
       (λ _. s))
-      (λ _. either B (eqb (Registers.writeOf (b .dma) p x .status) 0) (λ _. with-dma _ (dma-write (b .dma) (s .dma) p x h)) (λ _. s)))
+      (λ _. either B (eqb (p / 16) 2)
+      (λ _. either B (eqb (Registers.writeOf (b .dma) p x .status) 0) (λ _. with-dma _ (dma-write (b .dma) (s .dma) p x h)) (λ _. s))
+      (λ _. either B (eqb (Words.writeOf (b .slave) slaveIw3 (a0 p) x .status) 0)
+      (λ _. followed-small _ (with-slave _ _ (icu-write (b .slave) (s .slave) x h 7 (a0 p)) (s .slaveintp)))
+      (λ _. s))))
 
   board-read : (p : ℕ) → B (readOf b p)
-  unfolding readOf timerShown dmaShown
+  unfolding readOf timerShown dmaShown slaveShown
   board-read p =
       either B (eqb (p / 16) 0) (λ _. with-icu _ (icu-read (b .icu) (s .icu) (a0 p) (lines b)))
       (λ _. either B (eqb (p / 16) 1)
       (λ _. either B (eqb (readsOf (b .timer) p .status) 0) (λ _. with-timer _ (timer-read (b .timer) (s .timer) p)) (λ _. s))
-      (λ _. either B (eqb (Registers.readOf (b .dma) p .status) 0) (λ _. with-dma _ (dma-read (b .dma) (s .dma) p)) (λ _. s)))
+      (λ _. either B (eqb (p / 16) 2)
+      (λ _. either B (eqb (Registers.readOf (b .dma) p .status) 0) (λ _. with-dma _ (dma-read (b .dma) (s .dma) p)) (λ _. s))
+      (λ _. s)))
+
+  board-acknowledge : B (acknowledgeOf b)
+  unfolding acknowledgeOf slaveGives
+  board-acknowledge =
+      either B (passedOn (b .icu) (lines b) (b .slave))
+      (λ _. followed-small _
+      (record {
+        icu = served-small (b .icu) (s .icu) 7;
+        intp = s .intp;
+        slave = icu-acknowledge (b .slave) (s .slave) (b .slaveintp);
+        slaveintp = s .slaveintp;
+        timer = s .timer;
+        dma = s .dma;
+      }))
+      (λ _. either B (answered (b .icu) (b .slave)) (λ _. with-icu _ (icu-acknowledge (b .icu) (s .icu) (lines b))) (λ _. s))
 
   module _ (r m : List ℕ) (h : (i : ℕ) → byte r i < 256) where
     execute : (x : Decoded) → Decodes r x → B (outcomeOf b x m)
@@ -401,19 +442,22 @@ module _ (b : Board) (s : Sized b) where
     execute x malformed = s
     execute x (reset o) =
         either B (blocked b Reset) (λ _. s)
-        (λ _. record { icu = icu-reset; intp = omega arith; timer = resets-small; dma = reset-small })
+        (λ _. record { icu = icu-reset; intp = omega arith; slave = icu-reset; slaveintp = omega arith; timer = resets-small; dma = reset-small })
     execute x (write o p) = either B (blocked b (Write (byte r 1) (byte r 2))) (λ _. s) (λ _. board-write (byte r 1) (byte r 2) (h 2))
     execute x (read o p) = either B (blocked b (Read (byte r 1))) (λ _. s) (λ _. board-read (byte r 1))
-    execute x (intp o l) = either B (blocked b (Intp (byte r 2))) (λ _. s) (λ _. rewired-small (byte r 2) (b .timer) (h 2) (s .timer))
+    execute x (intp o l) = either B (blocked b (Intp (byte r 2))) (λ _. s) (λ _. followed-small _
+        (record { icu = s .icu; intp = h 2; slave = s .slave; slaveintp = s .slaveintp; timer = s .timer; dma = s .dma }))
     execute x (gates o l) =
-        either B (blocked b (Gates (byte r 2))) (λ _. s) (λ _. rewired-small (b .intp) _ (s .intp) (gates-small (b .timer) (s .timer) (byte r 2)))
+        either B (blocked b (Gates (byte r 2))) (λ _. s) (λ _. followed-small _ (with-timer _ (gates-small (b .timer) (s .timer) (byte r 2))))
     execute x (requests o l) = either B (blocked b (Requests (byte r 2))) (λ _. s) (λ _. with-dma _ (dma-requests (b .dma) (s .dma) (byte r 2)))
-    execute x (acknowledge o) =
-        either B (blocked b Acknowledge) (λ _. s) (λ _. with-icu _ (icu-acknowledge (b .icu) (s .icu) (lines b)))
+    execute x (slave-intp o) =
+        either B (blocked b (SlaveIntp (byte r 2))) (λ _. s)
+        (λ _. followed-small _ (with-slave _ _ (icu-lines (b .slave) (s .slave) (b .slaveintp) (byte r 2) (h 2)) (h 2)))
+    execute x (acknowledge o) = either B (blocked b Acknowledge) (λ _. s) (λ _. board-acknowledge)
     execute x (advance o l) =
         either B (blocked b (Advance (pulseCount r))) (λ _. s)
-        (λ _. let k = advanced (b .intp) (b .timer) (b .icu) (pulseCount r) (s .intp) (s .timer) (s .icu) in
-        record { icu = k .1; intp = s .intp; timer = k .0; dma = s .dma })
+        (λ _. let k = advanced (joined b) (b .timer) (b .icu) (pulseCount r) (joined-small (b .intp) (b .slave) (b .slaveintp) (s .intp)) (s .timer) (s .icu) in
+        record { icu = k .1; intp = s .intp; slave = s .slave; slaveintp = s .slaveintp; timer = k .0; dma = s .dma })
     execute x (cycle o) =
         either B (blocked b (Cycle (eqb (byte r 1) 1) (byte r 2))) (λ _. s)
         (λ _. with-dma _ (dma-cycle (b .dma) (s .dma) (eqb (byte r 1) 1) (byte r 2) m))
@@ -489,7 +533,7 @@ fed-keeps b t m room h k =
     record {
       seven = refl;
       bytes = rest-bytes (bytesOf b t) (countOf b t) s;
-      sized = record { icu = z .icu; intp = z .intp; timer = z .timer; dma = z .dma };
+      sized = record { icu = z .icu; intp = z .intp; slave = z .slave; slaveintp = z .slaveintp; timer = z .timer; dma = z .dma };
     })
     (λ _. k)
 
@@ -499,21 +543,24 @@ reached-keeps unfed =
     record {
       seven = refl;
       bytes = rest-bytes [] 0 (λ i. omega arith);
-      sized = record { icu = icu-reset; intp = omega arith; timer = resets-small; dma = reset-small };
+      sized = record { icu = icu-reset; intp = omega arith; slave = icu-reset; slaveintp = omega arith; timer = resets-small; dma = reset-small };
     }
 reached-keeps (fed {b = b} t m room h _ g) = fed-keeps b t m room h (reached-keeps g)
 
 -- A board that is as wide as its types, by the statement and by what is kept of it.
+typed-icu : {c : Icu} → SmallIcu c → Fine c → TypedIcu c
+typed-icu i f = record { iw1 = i .0; iw2 = i .1; edges = i .3; isr = f .isr; imr = i .2 }
+
+small-icu : {c : Icu} → TypedIcu c → SmallIcu c
+small-icu t = (t .iw1, t .iw2, t .imr, t .edges)
+
 pub typed-of : {b : Board} → Keeps b → Sound (b .dma) → Held b → Typed b
 typed-of k s h =
-    let i = k .sized .icu in
     record {
-      iw1 = i .0;
-      iw2 = i .1;
-      edges = i .3;
-      isr = h .icu .isr;
-      imr = i .2;
+      icu = typed-icu (k .sized .icu) (h .icu);
       intp = k .sized .intp;
+      slave = typed-icu (k .sized .slave) (h .slave);
+      slaveintp = k .sized .slaveintp;
       three = k .sized .timer .long;
       value = λ n. k .sized .timer .all n .0;
       count = λ n. k .sized .timer .all n .1;
@@ -533,8 +580,10 @@ keeps-of t =
       seven = t .seven;
       bytes = t .kept;
       sized = record {
-        icu = (t .iw1, t .iw2, t .imr, t .edges);
+        icu = small-icu (t .icu);
         intp = t .intp;
+        slave = small-icu (t .slave);
+        slaveintp = t .slaveintp;
         timer = record { long = t .three; all = λ n. (t .value n, t .count n, t .latch n, t .low n) };
         dma = t .mode;
       };

@@ -1,19 +1,19 @@
 -- Each record's status is the one that the table gives.
-use mathlib.Core.Path.{_≡_, refl, sym, _∙_}
+use mathlib.Core.Path.{_≡_, refl, sym, ap, _∙_}
 use mathlib.Core.List.{List}
 use mathlib.Core.Bool.{Bool, true, false, not, true≢false, false≢true}
 use Prim.Native.Nat.{ℕ, _+_, _*_, _/_, _%_, _≤_, _<_}
 use native.Mathlib.Omega.{arith}
 use lib.Dec.{eqb, ltb, leb}
 use lib.ListN.{getD}
-use borrow.Author.Tests.{eqb-true, eqb-false, ltb-true, leb-true, leb-false, lt-ltb, le-ltb, le-leb, lt-leb, eq-eqb, ne-eqb, not-true}
+use borrow.Author.Tests.{eqb-true, eqb-false, ltb-true, leb-true, leb-false, lt-ltb, le-ltb, le-leb, lt-leb, eq-eqb, ne-eqb}
 use Rattle.bits.specs.Choice.{if_then_else_, _and_, _or_}
 use Rattle.bits.specs.Bits.{bitOf, maskedOf}
 use Rattle.tape.specs.declared.Operation.{Operation}
-use Rattle.tape.specs.declared.Operation.the-variants.{Reset, Write, Read, Intp, Gates, Requests, Acknowledge, Advance, Cycle}
+use Rattle.tape.specs.declared.Operation.the-variants.{Reset, Write, Read, Intp, Gates, Requests, SlaveIntp, Acknowledge, Advance, Cycle}
 use Rattle.tape.specs.declared.Decoded.{Decoded}
 use Rattle.tape.specs.declared.Decoded.the-variants.{Asked, Malformed}
-use Rattle.tape.specs.Records.{byte, unused, icuPort, timerPort, dmaPort, writable, readable, linesAsked, pulseCount, decodeOf}
+use Rattle.tape.specs.Records.{byte, unused, icuPort, timerPort, dmaPort, slavePort, writable, readable, linesAsked, pulseCount, decodeOf}
 use Rattle.tape.specs.Answers.{answerOf}
 use Rattle.icu.specs.declared.Icu.{Icu}
 use Rattle.icu.specs.Fields as IcuFields
@@ -21,6 +21,9 @@ use Rattle.icu.specs.Answers as IcuAnswers
 use Rattle.icu.specs.Words as IcuWords
 use Rattle.icu.specs.Service as IcuService
 use Rattle.icu.specs.Requests.{irrOf, intOf}
+use Rattle.cascade.specs.declared.SetUp.{SetUp}
+use Rattle.cascade.specs.declared.SetUp.the-variants.{Unready, Single, Extended}
+use Rattle.cascade.specs.Cascade.{masterIw3, slaveIw3, answererBy, answererOf, somebody, answered, passedOn}
 use Rattle.timer.specs.declared.Counter.{Counter}
 use Rattle.timer.specs.declared.Timer.{Timer}
 use Rattle.timer.specs.Fields.{latched-is, latch-is, second-is}
@@ -35,20 +38,23 @@ use Rattle.dma.specs.Fields.{requests-are}
 use Rattle.dma.specs.Registers as DmaRegisters
 use Rattle.dma.specs.Registers.{unbuiltMode}
 use Rattle.board.specs.declared.Board.{Board}
-use Rattle.board.specs.Operations.{Outcome, a0, icuTold, icuWritten, icuShown, done, telling, refused, timerWritten, timerShown, dmaWritten, dmaShown, writeOf, readOf, cycleOf}
+use Rattle.board.specs.Operations.{Outcome, a0, icuTold, icuWritten, icuShown, done, telling, refused, timerWritten, timerShown, dmaWritten, dmaShown, slaveWritten, slaveShown, slaveGives, acknowledgeOf, writeOf, readOf, cycleOf}
 use Rattle.board.specs.Wiring.{lines}
 use Rattle.board.specs.Advance.{advanceOf}
 use Rattle.board.specs.Step.{executeOf, blocked, outcomeOf, answeredOf, stepOf}
-use Rattle.tape.proofs.Decodes.{either, Decodes, malformed, reset, write, read, intp, gates, requests, acknowledge, advance, cycle, decodes}
-use Rattle.promises.proofs.Logic.{both-left, both-right, and-true}
+use Rattle.tape.proofs.Decodes.{either, Decodes, malformed, reset, write, read, intp, gates, requests, slave-intp, acknowledge, advance, cycle, decodes}
+use Rattle.promises.specs.Table as Table
+use Rattle.promises.proofs.Logic.{both-left, and-true}
+use Rattle.promises.proofs.SetUps.{in-turn, both-answer, passed-by}
 use Rattle.promises.proofs.Ruled as Ruled
 use Rattle.promises.proofs.Ruled.{formed, levelsFit, outOfTurn, notBuilt, countsOne, due, earlyWord, unbuiltWord, modeless, earlyCount, unbuiltControl, unbuiltRegister, tooSmall, completesOne}
 
--- The three groups of ports.
+-- The four groups of ports.
 pub data Port (p : ℕ) : Type 0 where
   of-icu : ltb p 2 ≡ true → leb 16 p ≡ false → leb 32 p ≡ false → eqb (p / 16) 0 ≡ true → Port p
   of-timer : ltb p 2 ≡ false → leb 16 p ≡ true → ltb p 20 ≡ true → leb 32 p ≡ false → eqb (p / 16) 0 ≡ false → eqb (p / 16) 1 ≡ true → Port p
-  of-dma : ltb p 2 ≡ false → leb 16 p ≡ true → ltb p 20 ≡ false → leb 32 p ≡ true → ltb p 48 ≡ true → eqb (p / 16) 0 ≡ false → eqb (p / 16) 1 ≡ false → Port p
+  of-dma : ltb p 2 ≡ false → leb 16 p ≡ true → ltb p 20 ≡ false → leb 32 p ≡ true → ltb p 48 ≡ true → eqb (p / 16) 0 ≡ false → eqb (p / 16) 1 ≡ false → eqb (p / 16) 2 ≡ true → Port p
+  of-slave : ltb p 2 ≡ false → timerPort p ≡ false → dmaPort p ≡ false → leb 48 p ≡ true → ltb p 50 ≡ true → eqb (p / 16) 0 ≡ false → eqb (p / 16) 1 ≡ false → eqb (p / 16) 2 ≡ false → Port p
 
 port-icu : (p : ℕ) → p < 2 → Port p
 port-icu p h = of-icu (lt-ltb p 2 h) (lt-leb 16 p (omega arith)) (lt-leb 32 p (omega arith)) (eq-eqb (p / 16) 0 (omega arith))
@@ -62,24 +68,43 @@ port-dma p h l =
     of-dma (le-ltb p 2 (omega arith)) (le-leb 16 p (omega arith)) (le-ltb p 20 (omega arith)) (le-leb 32 p h) (lt-ltb p 48 l)
     (ne-eqb (p / 16) 0 (omega arith))
     (ne-eqb (p / 16) 1 (omega arith))
+    (eq-eqb (p / 16) 2 (omega arith))
+
+port-slave : (p : ℕ) → 48 ≤ p → p < 50 → Port p
+port-slave p h l =
+    of-slave (le-ltb p 2 (omega arith)) (rw (le-leb 16 p (omega arith)) (le-ltb p 20 (omega arith)))
+    (rw (le-leb 32 p (omega arith)) (le-ltb p 48 h))
+    (le-leb 48 p h)
+    (lt-ltb p 50 l)
+    (ne-eqb (p / 16) 0 (omega arith))
+    (ne-eqb (p / 16) 1 (omega arith))
+    (ne-eqb (p / 16) 2 (omega arith))
 
 -- An open port is of one group, and not one of those that are shut.
-open-to : (p : ℕ) (v w : Bool) → (ltb p 2 or ((leb 16 p and ltb p 20) and v) or ((leb 32 p and ltb p 48) and w)) ≡ true → Port p
-open-to p v w h = go (ltb p 2) (leb 16 p) (ltb p 20) (leb 32 p) (ltb p 48) v refl refl refl refl refl h
+open-to : (p : ℕ) (v w : Bool)
+    → (ltb p 2 or ((leb 16 p and ltb p 20) and v) or ((leb 32 p and ltb p 48) and w) or (leb 48 p and ltb p 50)) ≡ true
+    → Port p
+open-to p v w h = go (ltb p 2) (leb 16 p) (ltb p 20) v refl refl refl h
   where
-    dma : (d e : Bool) → leb 32 p ≡ d → ltb p 48 ≡ e → ((d and e) and w) ≡ true → Port p
-    dma true true x y h = port-dma p (leb-true 32 p x) (ltb-true p 48 y)
-    dma true false x y h = absurd (false≢true h)
-    dma false e x y h = absurd (false≢true h)
+    slave : (d e : Bool) → leb 48 p ≡ d → ltb p 50 ≡ e → (d and e) ≡ true → Port p
+    slave true true x y h = port-slave p (leb-true 48 p x) (ltb-true p 50 y)
+    slave true false x y h = absurd (false≢true h)
+    slave false e x y h = absurd (false≢true h)
 
-    go : (a b c d e v : Bool) → ltb p 2 ≡ a → leb 16 p ≡ b → ltb p 20 ≡ c → leb 32 p ≡ d → ltb p 48 ≡ e
-        → (a or ((b and c) and v) or ((d and e) and w)) ≡ true
+    dma : (d e w : Bool) → leb 32 p ≡ d → ltb p 48 ≡ e → (((d and e) and w) or (leb 48 p and ltb p 50)) ≡ true → Port p
+    dma true true true x y h = port-dma p (leb-true 32 p x) (ltb-true p 48 y)
+    dma true true false x y h = slave (leb 48 p) (ltb p 50) refl refl h
+    dma true false w x y h = slave (leb 48 p) (ltb p 50) refl refl h
+    dma false e w x y h = slave (leb 48 p) (ltb p 50) refl refl h
+
+    go : (a b c v : Bool) → ltb p 2 ≡ a → leb 16 p ≡ b → ltb p 20 ≡ c
+        → (a or ((b and c) and v) or ((leb 32 p and ltb p 48) and w) or (leb 48 p and ltb p 50)) ≡ true
         → Port p
-    go true b c d e v x y z s t h = port-icu p (ltb-true p 2 x)
-    go false true true d e true x y z s t h = port-timer p (leb-true 16 p y) (ltb-true p 20 z)
-    go false true true d e false x y z s t h = dma d e s t h
-    go false true false d e v x y z s t h = dma d e s t h
-    go false false c d e v x y z s t h = dma d e s t h
+    go true b c v x y z h = port-icu p (ltb-true p 2 x)
+    go false true true true x y z h = port-timer p (leb-true 16 p y) (ltb-true p 20 z)
+    go false true true false x y z h = dma (leb 32 p) (ltb p 48) w refl refl h
+    go false true false v x y z h = dma (leb 32 p) (ltb p 48) w refl refl h
+    go false false c v x y z h = dma (leb 32 p) (ltb p 48) w refl refl h
 
 pub writable-port : (p : ℕ) → writable p ≡ true → Port p
 unfolding writable
@@ -89,25 +114,26 @@ pub readable-port : (p : ℕ) → readable p ≡ true → Port p
 unfolding readable
 readable-port p h = open-to p (not (eqb p 19)) (not (eqb p 32) and not (eqb p 39)) h
 
--- The interrupt chip.
-icu-write : (c : Icu) (k : Bool) (x : ℕ)
-    → IcuWords.writeOf c k x .status ≡ (if earlyWord c k x then 3 else if unbuiltWord k x then 4 else 0)
+-- An interrupt chip, with the IW3 that fits it.
+icu-write : (c : Icu) (w : ℕ) (k : Bool) (x : ℕ)
+    → IcuWords.writeOf c w k x .status ≡ (if earlyWord c k x then 3 else if unbuiltWord c w k x then 4 else 0)
 unfolding IcuWords.writeOf IcuWords.laterWord IcuWords.mcw
-icu-write c true x = go (eqb (c .stage) 3) (eqb (c .stage) 1) (eqb (c .stage) 2)
+icu-write c w true x =
+    either W (eqb (c .stage) 3) (λ q. rw (eqb-true (c .stage) 3 q) refl)
+    (λ a. either W (eqb (c .stage) 1) (λ q. rw (eqb-true (c .stage) 1 q) refl)
+    (λ b. either W (eqb (c .stage) 4) (λ q. rw (eqb-true (c .stage) 4 q) (fits (eqb x w) _ _))
+    (λ d. either W (eqb (c .stage) 2) (λ q. rw (eqb-true (c .stage) 2 q) refl) (λ e. rw (a, b, d, e) refl))))
   where
-    go : (u v w : Bool)
-        → (if u then IcuAnswers.done (IcuFields.imr-is x c) else if v then IcuAnswers.done (IcuWords.iw2 c x) else if w then IcuAnswers.done (IcuWords.iw4 c x) else IcuAnswers.refused 3 c) .status
-        ≡ (if not (v or w or u) then 3 else 0)
-    go true true w = refl
-    go true false true = refl
-    go true false false = refl
-    go false true w = refl
-    go false false true = refl
-    go false false false = refl
-icu-write c false x = go (bitOf x 4) (bitOf x 1) (eqb (c .stage) 3) (bitOf x 3) (bitOf x 2) (IcuWords.setsExceptional x)
+    W : IcuAnswers.Told → Type 0
+    W t = t .status ≡ (if earlyWord c true x then 3 else if unbuiltWord c w true x then 4 else 0)
+
+    fits : (q : Bool) (d e : Icu) → (if q then IcuAnswers.done d else IcuAnswers.refused 4 e) .status ≡ (if not q then 4 else 0)
+    fits true d e = refl
+    fits false d e = refl
+icu-write c w false x = go (bitOf x 4) (eqb (c .stage) 3) (bitOf x 3) (bitOf x 2) (IcuWords.setsExceptional x) (bitOf x 1)
   where
-    go : (d4 d1 u d3 d2 v : Bool)
-        → (if d4 then (if d1 then IcuAnswers.done (IcuWords.iw1 c x) else IcuAnswers.refused 4 c)
+    go : (d4 u d3 d2 v d1 : Bool)
+        → (if d4 then IcuAnswers.done (IcuWords.iw1 c x)
         else if u then
         (if d3 then
         (if d2 then IcuAnswers.refused 4 c
@@ -116,19 +142,14 @@ icu-write c false x = go (bitOf x 4) (bitOf x 1) (eqb (c .stage) 3) (bitOf x 3) 
         else IcuAnswers.done c)
         else IcuAnswers.done (IcuWords.pfcw c x))
         else IcuAnswers.refused 3 c) .status
-        ≡ (if not d4 and not u then 3 else if (if d4 then not d1 else d3 and (d2 or v)) then 4 else 0)
-    go true true u d3 d2 v = refl
-    go true false u d3 d2 v = refl
-    go false true true true true v = refl
-    go false true true true false true = refl
-    go false true true true false false = refl
-    go false true true false d2 v = refl
-    go false true false d3 d2 v = refl
-    go false false true true true v = refl
-    go false false true true false true = refl
-    go false false true true false false = refl
-    go false false true false d2 v = refl
-    go false false false d3 d2 v = refl
+        ≡ (if not d4 and not u then 3 else if not d4 and d3 and (d2 or v) then 4 else 0)
+    go true u d3 d2 v d1 = refl
+    go false true true true v d1 = refl
+    go false true true false true d1 = refl
+    go false true true false false true = refl
+    go false true true false false false = refl
+    go false true false d2 v d1 = refl
+    go false false d3 d2 v d1 = refl
 
 icu-read : (c : Icu) (k : Bool) (l : ℕ) → IcuService.readOf c k l .status ≡ (if not (IcuWords.ready c) then 3 else 0)
 unfolding IcuService.readOf
@@ -162,6 +183,29 @@ icu-acknowledge c l = go (eqb (c .stage) 3) (intOf c l) (c .vector)
     go true false true = refl
     go true false false = refl
     go false i v = refl
+
+-- An acknowledge is out of turn exactly where the set-ups of the two chips answer none.
+pub same-unanswered : (b : Board) → Table.unanswered b ≡ not (answered (b .icu) (b .slave))
+unfolding Table.unanswered answered answererOf
+same-unanswered b =
+    go (IcuWords.ready (b .icu)) (IcuWords.sngl (b .icu)) (IcuWords.ready (b .slave)) (IcuWords.sngl (b .slave)) (b .icu .vector) (b .slave .vector)
+  where
+    by : Bool → Bool → SetUp
+    by u v = if u then (if v then Single else Extended) else Unready
+
+    go : (u v p q c s : Bool)
+        → (not u or Table.differ (u and not v) (p and not q) or ((u and not v) and Table.differ c s))
+        ≡ not (somebody (answererBy (by u v) (by p q) (if c then s else not s)))
+    go true true true true c s = refl
+    go true true true false c s = refl
+    go true true false q c s = refl
+    go true false true true c s = refl
+    go true false true false true true = refl
+    go true false true false true false = refl
+    go true false true false false true = refl
+    go true false true false false false = refl
+    go true false false q c s = refl
+    go false v p q c s = refl
 
 -- The timer.
 control-status : (c : Counter) (x : ℕ)
@@ -347,79 +391,132 @@ module _ (p : ℕ) (a : ltb p 2 ≡ false) (c : ltb p 20 ≡ false) (d : leb 32 
   f : leb 16 p ≡ true
   f = le-leb 16 p (omega (arith, l))
 
+  g : leb 48 p ≡ false
+  g = lt-leb 48 p u
+
+  -- neither of two ports, where no port is left
+  neither : (x y : Bool) → ((not x and not y) or false) ≡ true → (x ≡ false) × (y ≡ false)
+  neither true y h = absurd (false≢true h)
+  neither false true h = absurd (false≢true h)
+  neither false false h = (refl, refl)
+
   write-open : writable p ≡ true → (eqb (p % 16) 7 ≡ false) × (eqb (p % 16) 11 ≡ false)
   unfolding writable
   write-open h =
-      let g = rw (a, f, c, d, e) at h in (
-        ne-eqb (p % 16) 7 (omega (arith, l, u, eqb-false p 39 (not-true (eqb p 39) (both-left (not (eqb p 39)) (not (eqb p 43)) g)))),
-        ne-eqb (p % 16) 11 (omega (arith, l, u, eqb-false p 43 (not-true (eqb p 43) (both-right (not (eqb p 39)) (not (eqb p 43)) g)))),
+      let n = neither (eqb p 39) (eqb p 43) (rw (a, f, c, d, e, g) at h) in (
+        ne-eqb (p % 16) 7 (omega (arith, l, u, eqb-false p 39 (n .0))),
+        ne-eqb (p % 16) 11 (omega (arith, l, u, eqb-false p 43 (n .1))),
       )
 
   read-open : readable p ≡ true → (eqb (p % 16) 0 ≡ false) × (eqb (p % 16) 7 ≡ false)
   unfolding readable
   read-open h =
-      let g = rw (a, f, c, d, e) at h in (
-        ne-eqb (p % 16) 0 (omega (arith, l, u, eqb-false p 32 (not-true (eqb p 32) (both-left (not (eqb p 32)) (not (eqb p 39)) g)))),
-        ne-eqb (p % 16) 7 (omega (arith, l, u, eqb-false p 39 (not-true (eqb p 39) (both-right (not (eqb p 32)) (not (eqb p 39)) g)))),
+      let n = neither (eqb p 32) (eqb p 39) (rw (a, f, c, d, e, g) at h) in (
+        ne-eqb (p % 16) 0 (omega (arith, l, u, eqb-false p 32 (n .0))),
+        ne-eqb (p % 16) 7 (omega (arith, l, u, eqb-false p 39 (n .1))),
       )
 
 -- A port of the timer that is open to reads.
 timer-open : (p : ℕ) → ltb p 2 ≡ false → leb 16 p ≡ true → ltb p 20 ≡ true → leb 32 p ≡ false → readable p ≡ true → eqb (p % 4) 3 ≡ false
 unfolding readable
-timer-open p a b c d h = go (eqb p 19) refl (rw (a, b, c, d) at h)
+timer-open p a b c d h = let e = ltb-true p 20 c in go (eqb p 19) refl (rw (a, b, c, d, lt-leb 48 p (omega arith)) at h)
   where
     go : (q : Bool) → eqb p 19 ≡ q → (not q or false) ≡ true → eqb (p % 4) 3 ≡ false
     go true q h = absurd (false≢true h)
     go false q h = ne-eqb (p % 4) 3 (omega (arith, leb-true 16 p b, ltb-true p 20 c, eqb-false p 19 q))
 
 module _ (b : Board) (p : ℕ) where
-  board-write : (x : ℕ) → writable p ≡ true
-      → writeOf b p x .status
-      ≡ (if (if icuPort p then earlyWord (b .icu) (a0 p) x else timerPort p and earlyCount (b .timer) (p % 4) x) then 3
-      else if (if icuPort p then unbuiltWord (a0 p) x
-      else if timerPort p then eqb (p % 4) 3 and unbuiltControl x
-      else dmaPort p and unbuiltRegister (p % 16) x) then 4
-      else if timerPort p and not (eqb (p % 4) 3) and completesOne (at (b .timer) (p % 4)) x then 6
-      else 0)
-  unfolding writeOf timerWritten dmaWritten
-  board-write x h = go (writable-port p h)
-    where
-      go : Port p
-          → (if eqb (p / 16) 0 then icuTold b (icuWritten b (a0 p) x)
-          else if eqb (p / 16) 1 then timerWritten b p x
-          else dmaWritten b p x) .status
-          ≡ (if (if icuPort p then earlyWord (b .icu) (a0 p) x else timerPort p and earlyCount (b .timer) (p % 4) x) then 3
-          else if (if icuPort p then unbuiltWord (a0 p) x
-          else if timerPort p then eqb (p % 4) 3 and unbuiltControl x
-          else dmaPort p and unbuiltRegister (p % 16) x) then 4
-          else if timerPort p and not (eqb (p % 4) 3) and completesOne (at (b .timer) (p % 4)) x then 6
-          else 0)
-      go (of-icu i t _ z) = rw (z, i, t) (icu-write (b .icu) (a0 p) x)
-      go (of-timer i t k _ z o) = rw (z, o, i, t, k) (passed (writesOf (b .timer) p x .status) _ b ∙ timer-write (b .timer) p x)
-      go (of-dma i t k q e z o) =
-          let w = write-open p i k q e h in
-          rw (z, o, i, t, k, q, e) (passed (DmaRegisters.writeOf (b .dma) p x .status) _ b ∙ dma-writes (b .dma) p x (w .0) (w .1))
+  module _ (x : ℕ) where
+    abbrev turnWrite : Bool
+    turnWrite =
+        if icuPort p then earlyWord (b .icu) (a0 p) x
+        else if timerPort p then earlyCount (b .timer) (p % 4) x
+        else slavePort p and earlyWord (b .slave) (a0 p) x
+
+    abbrev unbuiltWrite : Bool
+    unbuiltWrite =
+        if icuPort p then unbuiltWord (b .icu) masterIw3 (a0 p) x
+        else if timerPort p then eqb (p % 4) 3 and unbuiltControl x
+        else if dmaPort p then unbuiltRegister (p % 16) x
+        else slavePort p and unbuiltWord (b .slave) slaveIw3 (a0 p) x
+
+    board-write : writable p ≡ true
+        → writeOf b p x .status
+        ≡ (if turnWrite then 3
+        else if unbuiltWrite then 4
+        else if timerPort p and not (eqb (p % 4) 3) and completesOne (at (b .timer) (p % 4)) x then 6
+        else 0)
+    unfolding writeOf timerWritten dmaWritten slaveWritten
+    board-write h = go (writable-port p h)
+      where
+        go : Port p
+            → (if eqb (p / 16) 0 then icuTold b (icuWritten b (a0 p) x)
+            else if eqb (p / 16) 1 then timerWritten b p x
+            else if eqb (p / 16) 2 then dmaWritten b p x
+            else slaveWritten b (a0 p) x) .status
+            ≡ (if turnWrite then 3
+            else if unbuiltWrite then 4
+            else if timerPort p and not (eqb (p % 4) 3) and completesOne (at (b .timer) (p % 4)) x then 6
+            else 0)
+        go (of-icu i t _ z) = rw (z, i, t) (icu-write (b .icu) masterIw3 (a0 p) x)
+        go (of-timer i t k _ z o) = rw (z, o, i, t, k) (passed (writesOf (b .timer) p x .status) _ b ∙ timer-write (b .timer) p x)
+        go (of-dma i t k q e z o n) =
+            let w = write-open p i k q e h in
+            let v = ltb-true p 48 e in
+            rw (z, o, n, i, t, k, q, e, lt-leb 48 p v)
+            (passed (DmaRegisters.writeOf (b .dma) p x .status) _ b ∙ dma-writes (b .dma) p x (w .0) (w .1))
+        go (of-slave i t d v w z o n) =
+            rw (z, o, n, i, t, d, v, w)
+            (passed (IcuWords.writeOf (b .slave) slaveIw3 (a0 p) x .status) _ b ∙ icu-write (b .slave) slaveIw3 (a0 p) x)
+
+  abbrev turnRead : Bool
+  turnRead =
+      if icuPort p then not (IcuWords.ready (b .icu))
+      else if timerPort p then not (eqb (p % 4) 3) and modeless (b .timer) (p % 4)
+      else slavePort p and not (IcuWords.ready (b .slave))
 
   board-read : readable p ≡ true
-      → readOf b p .status
-      ≡ (if (if icuPort p then not (IcuWords.ready (b .icu)) else timerPort p and not (eqb (p % 4) 3) and modeless (b .timer) (p % 4)) then 3
-      else if dmaPort p and leb 12 (p % 16) and ltb (p % 16) 15 then 4
-      else 0)
-  unfolding readOf timerShown dmaShown
+      → readOf b p .status ≡ (if turnRead then 3 else if dmaPort p and leb 12 (p % 16) and ltb (p % 16) 15 then 4 else 0)
+  unfolding readOf timerShown dmaShown slaveShown
   board-read h = go (readable-port p h)
     where
       go : Port p
-          → (if eqb (p / 16) 0 then icuTold b (icuShown b (a0 p)) else if eqb (p / 16) 1 then timerShown b p else dmaShown b p) .status
-          ≡ (if (if icuPort p then not (IcuWords.ready (b .icu)) else timerPort p and not (eqb (p % 4) 3) and modeless (b .timer) (p % 4)) then 3
-          else if dmaPort p and leb 12 (p % 16) and ltb (p % 16) 15 then 4
-          else 0)
+          → (if eqb (p / 16) 0 then icuTold b (icuShown b (a0 p))
+          else if eqb (p / 16) 1 then timerShown b p
+          else if eqb (p / 16) 2 then dmaShown b p
+          else slaveShown b (a0 p)) .status
+          ≡ (if turnRead then 3 else if dmaPort p and leb 12 (p % 16) and ltb (p % 16) 15 then 4 else 0)
       go (of-icu i t k z) = rw (z, i, k) (icu-read (b .icu) (a0 p) (lines b))
       go (of-timer i t k n z o) =
           rw (z, o, i, t, k, n, timer-open p i t k n h)
           (shown (readsOf (b .timer) p .status) _ _ b ∙ timer-read (b .timer) p (timer-open p i t k n h))
-      go (of-dma i t k q e z o) =
+      go (of-dma i t k q e z o n) =
           let w = read-open p i k q e h in
-          rw (z, o, i, t, k, q, e) (shown (DmaRegisters.readOf (b .dma) p .status) _ _ b ∙ dma-reads (b .dma) p (w .0) (w .1))
+          let v = ltb-true p 48 e in
+          rw (z, o, n, i, t, k, q, e, lt-leb 48 p v)
+          (shown (DmaRegisters.readOf (b .dma) p .status) _ _ b ∙ dma-reads (b .dma) p (w .0) (w .1))
+      go (of-slave i t d v w z o n) = rw (z, o, n, i, t, d, v, w) (icu-read (b .slave) (a0 p) (b .slaveintp))
+
+module _ (b : Board) where
+  -- An acknowledge that is passed on is done: the slave is ready.
+  pub gives-status : passedOn (b .icu) (lines b) (b .slave) ≡ true → slaveGives b .status ≡ 0
+  unfolding slaveGives
+  gives-status h =
+      let k = both-answer b (passed-by (b .icu) (lines b) (b .slave) h .0) in
+      icu-acknowledge (b .slave) (b .slaveintp) ∙ rw (both-left (IcuWords.ready (b .slave)) (not (IcuWords.sngl (b .slave))) (k .1)) refl
+
+  -- Any acknowledge, by the set-ups of the two chips: one that is answered is done, whoever gives the bytes.
+  abbrev Answers : Outcome → Type 0
+  Answers o = o .status ≡ (if not (answered (b .icu) (b .slave)) then 3 else 0)
+
+  board-acknowledge : Answers (acknowledgeOf b)
+  unfolding acknowledgeOf
+  board-acknowledge =
+      either Answers (passedOn (b .icu) (lines b) (b .slave))
+      (λ h. rw (in-turn b (both-answer b (passed-by (b .icu) (lines b) (b .slave) h .0) .2) .1) (gives-status h))
+      (λ _. either Answers (answered (b .icu) (b .slave))
+      (λ h. rw h (icu-acknowledge (b .icu) (lines b) ∙ rw (in-turn b (same-unanswered b ∙ ap not h) .0) refl))
+      (λ h. rw h refl))
 
 -- Whether a record is well formed is told by its bytes alone.
 abbrev pub asked : Decoded → Bool
@@ -443,7 +540,7 @@ unfolding linesAsked levelsFit
 lines-formed g l =
     or-else (eqb g 0) _ _ _ _ (asked-if (eqb (l % 2) 0) (Intp l))
     (or-else (eqb g 1) _ _ _ _ (asked-if (ltb l 8) (Gates l))
-    (or-else (eqb g 2) _ _ _ _ (asked-if (ltb l 16) (Requests l)) refl))
+    (or-else (eqb g 2) _ _ _ _ (asked-if (ltb l 16) (Requests l)) (asked-if (eqb g 3) (SlaveIntp l))))
 
 pub formed-asked : (r : List ℕ) → asked (decodeOf r) ≡ formed r
 unfolding decodeOf formed
@@ -479,9 +576,10 @@ module _ (b : Board) (r m : List ℕ) where
       rw (← f, eqb-true (byte r 0) 3 o) (gated b (blocked b (Gates (byte r 2))) (executeOf b (Gates (byte r 2)) m) 0 refl)
   by x (requests o l) f =
       rw (← f, eqb-true (byte r 0) 3 o) (gated b (blocked b (Requests (byte r 2))) (executeOf b (Requests (byte r 2)) m) 0 refl)
+  by x (slave-intp o) f =
+      rw (← f, eqb-true (byte r 0) 3 o) (gated b (blocked b (SlaveIntp (byte r 2))) (executeOf b (SlaveIntp (byte r 2)) m) 0 refl)
   by x (acknowledge o) f =
-      rw (← f, eqb-true (byte r 0) 4 o)
-      (gated b (blocked b Acknowledge) (executeOf b Acknowledge m) _ (icu-acknowledge (b .icu) (lines b)))
+      rw (← f, eqb-true (byte r 0) 4 o) (gated b (blocked b Acknowledge) (executeOf b Acknowledge m) _ (board-acknowledge b))
   by x (advance o l) f =
       rw (← f, eqb-true (byte r 0) 5 o) (gated b (blocked b (Advance (pulseCount r))) (executeOf b (Advance (pulseCount r)) m) 0 refl)
   by x (cycle o) f =

@@ -7,14 +7,16 @@ use Prim.Native.Nat.{ℕ, zero, suc, _+_, _*_, _/_, _<_, _%_}
 use native.Mathlib.Omega.{arith}
 use lib.Dec.{eqb, ltb, leb}
 use lib.ListN.{getD, length}
-use borrow.Author.Tests.{eqb-true, eqb-false, ltb-true, leb-true}
+use borrow.Author.Tests.{eqb-true, eqb-false, lt-ltb, le-leb}
 use Rattle.bits.specs.Choice.{if_then_else_, _and_, _or_}
 use Rattle.tape.specs.declared.Operation.{Operation}
-use Rattle.tape.specs.declared.Operation.the-variants.{Reset, Write, Read, Intp, Gates, Requests, Acknowledge, Advance, Cycle}
+use Rattle.tape.specs.declared.Operation.the-variants.{Reset, Write, Read, Intp, Gates, Requests, SlaveIntp, Acknowledge, Advance, Cycle}
 use Rattle.tape.specs.declared.Decoded.{Decoded}
 use Rattle.tape.specs.declared.Decoded.the-variants.{Asked, Malformed}
-use Rattle.tape.specs.Records.{byte, writable, dmaPort, decodeOf, pulseCount}
+use Rattle.tape.specs.Records.{byte, dmaPort, decodeOf, pulseCount}
 use Rattle.tape.specs.Answers.{twelve, answerOf}
+use Rattle.icu.specs.Words as IcuWords
+use Rattle.cascade.specs.Cascade.{slaveIw3, answered, passedOn}
 use Rattle.timer.specs.Timer.{writesOf, readsOf}
 use Rattle.dma.specs.declared.Dma.{Dma}
 use Rattle.dma.specs.declared.Got.{Got}
@@ -24,11 +26,11 @@ use Rattle.dma.specs.Report.{Told}
 use Rattle.dma.specs.Cycle.{writes, pokeOf, single, ready, channelAt, winnerFrom, winner, lastOf, releases, nothingOf, grantedOf, releasedOf, unitOf, cycleBy}
 use Rattle.dma.specs.Cycle as DmaCycle
 use Rattle.board.specs.declared.Board.{Board}
-use Rattle.board.specs.Operations.{Outcome, refused, icuTold, icuWritten, a0, payloadOf, timerWritten, timerShown, dmaWritten, dmaShown, writeOf, readOf, cycleOf, cycleMemory}
-use Rattle.board.specs.Wiring.{levelsOf, rewired}
+use Rattle.board.specs.Operations.{Outcome, refused, icuTold, icuWritten, a0, payloadOf, timerWritten, timerShown, dmaWritten, dmaShown, slaveWritten, slaveShown, slaveGives, acknowledgeOf, writeOf, readOf, cycleOf, cycleMemory}
+use Rattle.board.specs.Wiring.{levelsOf, lines}
 use Rattle.board.specs.Advance.{advanceOf}
 use Rattle.board.specs.Step.{executeOf, memoryAfter, blocked, outcomeOf, memoryOf, answeredOf, stepOf, stepMemory}
-use Rattle.tape.proofs.Decodes.{either, Decodes, malformed, reset, write, read, intp, gates, requests, acknowledge, advance, cycle, decodes}
+use Rattle.tape.proofs.Decodes.{either, Decodes, malformed, reset, write, read, intp, gates, requests, slave-intp, acknowledge, advance, cycle, decodes}
 use Rattle.promises.specs.Words.{disturbs}
 use Rattle.promises.proofs.Sound.{Sound, cycle-sound, requests-sound, read-sound, write-sound, reset-sound}
 use Rattle.promises.proofs.Seen.{Seen, still, unit, same, Serves, starts}
@@ -94,17 +96,8 @@ seen-cycle d m e x l s = at (d .serving) (releases d) (d .disabled) (eqb (winner
     at false r false false v q = still refl refl refl (λ h. won d 0 4 q)
 
 -- A port of the DMA chip, by its high digit.
-port-of : (p : ℕ) → writable p ≡ true → eqb (p / 16) 0 ≡ false → eqb (p / 16) 1 ≡ false → dmaPort p ≡ true
-unfolding writable
-port-of p h z o = at (ltb p 2) (leb 16 p) (ltb p 20) (dmaPort p) (not (eqb p 39) and not (eqb p 43)) refl refl refl h
-  where
-    at : (a b c u v : Bool) → ltb p 2 ≡ a → leb 16 p ≡ b → ltb p 20 ≡ c → (a or (b and c) or (u and v)) ≡ true → u ≡ true
-    at true b c u v x y w h = absurd (omega (arith, ltb-true p 2 x, eqb-false (p / 16) 0 z))
-    at false true true u v x y w h = absurd (omega (arith, leb-true 16 p y, ltb-true p 20 w, eqb-false (p / 16) 1 o))
-    at false true false true v x y w h = refl
-    at false true false false v x y w h = h
-    at false false c true v x y w h = refl
-    at false false c false v x y w h = h
+port-of : (p : ℕ) → eqb (p / 16) 2 ≡ true → dmaPort p ≡ true
+port-of p h = let e = eqb-true (p / 16) 2 h in rw (le-leb 32 p (omega arith), lt-ltb p 48 (omega arith)) refl
 
 -- Channels and service are as they were. (A record: three equations side by side, carried through a chain of cases, are dear to check.)
 record Unmoved (d e : Dma) : Type 0 where
@@ -146,16 +139,30 @@ module _ (b : Board) (r m : List ℕ) where
   Stays o = Unmoved (b .dma) (o .board .dma)
 
   timer-write : (p x : ℕ) → Stays (timerWritten b p x)
-  unfolding timerWritten rewired
+  unfolding timerWritten
   timer-write p x = either Stays (eqb (writesOf (b .timer) p x .status) 0) (λ _. as-it-was refl refl refl) (λ _. as-it-was refl refl refl)
 
+  -- What goes to the slave, and an acknowledge, never reach the DMA chip.
+  slave-write : (k : Bool) (x : ℕ) → Stays (slaveWritten b k x)
+  unfolding slaveWritten
+  slave-write k x =
+      either Stays (eqb (IcuWords.writeOf (b .slave) slaveIw3 k x .status) 0) (λ _. as-it-was refl refl refl) (λ _. as-it-was refl refl refl)
+
+  acknowledges : Stays (acknowledgeOf b)
+  unfolding acknowledgeOf slaveGives
+  acknowledges =
+      either Stays (passedOn (b .icu) (lines b) (b .slave)) (λ _. as-it-was refl refl refl)
+      (λ _. either Stays (answered (b .icu) (b .slave)) (λ _. as-it-was refl refl refl) (λ _. as-it-was refl refl refl))
+
   any-read : (p : ℕ) → Stays (readOf b p)
-  unfolding readOf timerShown dmaShown
+  unfolding readOf timerShown dmaShown slaveShown
   any-read p =
       either Stays (eqb (p / 16) 0) (λ _. as-it-was refl refl refl)
       (λ _. either Stays (eqb (p / 16) 1)
       (λ _. either Stays (eqb (readsOf (b .timer) p .status) 0) (λ _. as-it-was refl refl refl) (λ _. as-it-was refl refl refl))
-      (λ _. either Stays (eqb (DmaRegisters.readOf (b .dma) p .status) 0) (λ _. read-still (b .dma) p) (λ _. as-it-was refl refl refl)))
+      (λ _. either Stays (eqb (p / 16) 2)
+      (λ _. either Stays (eqb (DmaRegisters.readOf (b .dma) p .status) 0) (λ _. read-still (b .dma) p) (λ _. as-it-was refl refl refl))
+      (λ _. as-it-was refl refl refl)))
 
   -- An operation other than a cycle that leaves channels and service as they are: its answer reports no unit.
   plain : (n : ℕ) (o : Outcome)
@@ -192,20 +199,23 @@ module _ (b : Board) (r m : List ℕ) where
       at false = refl
 
   by : (x : Decoded) → Sound (b .dma) → Decodes r x → Fine (outcomeOf b x m) (memoryOf b x m)
-  unfolding outcomeOf memoryOf executeOf memoryAfter answerOf writeOf rewired advanceOf DmaRegisters.requestedOf cycleOf cycleMemory
+  unfolding outcomeOf memoryOf executeOf memoryAfter answerOf writeOf advanceOf DmaRegisters.requestedOf cycleOf cycleMemory
   by x s malformed = λ c. same refl refl refl refl refl
   by x s (reset o) = held Reset (λ c. absurd (true≢false (sym (ap (λ (u : Bool). u or (eqb (byte r 0) 1 and dmaPort (byte r 1))) o) ∙ c)))
   by x s (write o p) =
       held (Write (byte r 1) (byte r 2))
       (either (λ (y : Outcome). Fine y m) (eqb (byte r 1 / 16) 0) (λ _. plain 1 (icuTold b (icuWritten b (a0 (byte r 1)) (byte r 2))) o refl (as-it-was refl refl refl))
-      (λ z. either (λ (y : Outcome). Fine y m) (eqb (byte r 1 / 16) 1)
+      (λ _. either (λ (y : Outcome). Fine y m) (eqb (byte r 1 / 16) 1)
       (λ _. plain 1 (timerWritten b (byte r 1) (byte r 2)) o refl (timer-write (byte r 1) (byte r 2)))
-      (λ w. dma-write o (port-of (byte r 1) p z w))))
+      (λ _. either (λ (y : Outcome). Fine y m) (eqb (byte r 1 / 16) 2)
+      (λ d. dma-write o (port-of (byte r 1) d))
+      (λ _. plain 1 (slaveWritten b (a0 (byte r 1)) (byte r 2)) o refl (slave-write (a0 (byte r 1)) (byte r 2))))))
   by x s (read o p) = held (Read (byte r 1)) (plain 2 (readOf b (byte r 1)) o refl (any-read (byte r 1)))
   by x s (intp o l) = held (Intp (byte r 2)) (plain 3 (executeOf b (Intp (byte r 2)) m) o refl (as-it-was refl refl refl))
   by x s (gates o l) = held (Gates (byte r 2)) (plain 3 (executeOf b (Gates (byte r 2)) m) o refl (as-it-was refl refl refl))
   by x s (requests o l) = held (Requests (byte r 2)) (plain 3 (executeOf b (Requests (byte r 2)) m) o refl (as-it-was refl refl refl))
-  by x s (acknowledge o) = held Acknowledge (plain 4 (executeOf b Acknowledge m) o refl (as-it-was refl refl refl))
+  by x s (slave-intp o) = held (SlaveIntp (byte r 2)) (plain 3 (executeOf b (SlaveIntp (byte r 2)) m) o refl (as-it-was refl refl refl))
+  by x s (acknowledge o) = held Acknowledge (plain 4 (acknowledgeOf b) o refl acknowledges)
   by x s (advance o l) = held (Advance (pulseCount r)) (plain 5 (executeOf b (Advance (pulseCount r)) m) o refl (as-it-was refl refl refl))
   by x s (cycle o) =
       held (Cycle (eqb (byte r 1) 1) (byte r 2))
@@ -220,22 +230,28 @@ module _ (b : Board) (r m : List ℕ) where
   Kept o = Sound (o .board .dma)
 
   execute-sound : (o : Operation) → Sound (b .dma) → Kept (executeOf b o m)
-  unfolding executeOf writeOf readOf timerWritten timerShown dmaWritten dmaShown rewired advanceOf cycleOf
+  unfolding executeOf writeOf readOf timerWritten timerShown dmaWritten dmaShown slaveWritten slaveShown slaveGives acknowledgeOf advanceOf cycleOf
   execute-sound Reset s = reset-sound
   execute-sound (Write p x) s =
       either Kept (eqb (p / 16) 0) (λ _. s)
       (λ _. either Kept (eqb (p / 16) 1)
       (λ _. either Kept (eqb (writesOf (b .timer) p x .status) 0) (λ _. s) (λ _. s))
-      (λ _. either Kept (eqb (DmaRegisters.writeOf (b .dma) p x .status) 0) (λ _. write-sound (b .dma) s p x) (λ _. s)))
+      (λ _. either Kept (eqb (p / 16) 2)
+      (λ _. either Kept (eqb (DmaRegisters.writeOf (b .dma) p x .status) 0) (λ _. write-sound (b .dma) s p x) (λ _. s))
+      (λ _. either Kept (eqb (IcuWords.writeOf (b .slave) slaveIw3 (a0 p) x .status) 0) (λ _. s) (λ _. s))))
   execute-sound (Read p) s =
       either Kept (eqb (p / 16) 0) (λ _. s)
       (λ _. either Kept (eqb (p / 16) 1)
       (λ _. either Kept (eqb (readsOf (b .timer) p .status) 0) (λ _. s) (λ _. s))
-      (λ _. either Kept (eqb (DmaRegisters.readOf (b .dma) p .status) 0) (λ _. read-sound (b .dma) s p) (λ _. s)))
+      (λ _. either Kept (eqb (p / 16) 2)
+      (λ _. either Kept (eqb (DmaRegisters.readOf (b .dma) p .status) 0) (λ _. read-sound (b .dma) s p) (λ _. s))
+      (λ _. s)))
   execute-sound (Intp l) s = s
   execute-sound (Gates l) s = s
   execute-sound (Requests l) s = requests-sound (b .dma) s l
-  execute-sound Acknowledge s = s
+  execute-sound (SlaveIntp l) s = s
+  execute-sound Acknowledge s =
+      either Kept (passedOn (b .icu) (lines b) (b .slave)) (λ _. s) (λ _. either Kept (answered (b .icu) (b .slave)) (λ _. s) (λ _. s))
   execute-sound (Advance n) s = s
   execute-sound (Cycle e x) s = cycle-sound (b .dma) s e x m
 

@@ -19,24 +19,28 @@ use Rattle.icu.specs.Answers.{Told, telling, calling}
 use Rattle.icu.specs.Words.{ready, ag4}
 use Rattle.icu.specs.Requests.{askedOf, outranksAll, intOf}
 use Rattle.icu.specs.Service.{takes, servedOf, vectorOf, callLowOf, naming, acknowledgeOf}
+use Rattle.cascade.specs.Cascade.{answererOf, answered, together, passedOn}
 use Rattle.dma.specs.declared.Dma.{Dma}
 use Rattle.dma.specs.Fields.{chan}
 use Rattle.dma.specs.Cycle as DmaCycle
 use Rattle.dma.specs.Cycle.{channelAt, winnerFrom, winner, nothingOf, grantedOf}
 use Rattle.board.specs.declared.Board.{Board}
 use Rattle.board.specs.declared.Stepped.{Stepped}
-use Rattle.board.specs.Operations.{Outcome, done, refused, icuTold, payloadOf, cycleOf, cycleMemory}
+use Rattle.board.specs.Operations as Board-does
+use Rattle.board.specs.Operations.{Outcome, done, refused, toldWith, icuTold, payloadOf, cycleOf, cycleMemory}
 use Rattle.board.specs.Wiring.{freshOf, resetOf, icu-is, dma-is, lines, int, levelsOf}
 use Rattle.board.specs.Step.{executeOf, memoryAfter, blocked, outcomeOf, memoryOf, answeredOf, stepOf, stepMemory}
 use Rattle.promises.specs.Records.{resetting, acknowledging, cyclingWith}
 use Rattle.promises.specs.Words.{Highest, askedFor, ahead, asks, Foremost}
+use Rattle.promises.specs.Table.{extended, unanswered}
 use Rattle.promises.specs.Reached.{Reached}
 use Rattle.promises.specs.Meant.{Names, Takes, Grants}
-use Rattle.promises.proofs.Logic.{both-left, both-right}
+use Rattle.promises.proofs.Logic.{both-left, both-right, and-false}
 use Rattle.promises.proofs.Runs.{reached-sound}
 use Rattle.promises.proofs.IcuKept.{found}
 use Rattle.promises.proofs.Highest.{highest-is, highest-of, cleared, added}
 use Rattle.promises.proofs.Requested.{Fit, reached-fit, asked-bit}
+use Rattle.promises.proofs.SetUps.{in-turn, not-passed}
 
 -- What the chip tells: with INT high the level taken, with INT low level 7.
 pub told-high : (c : Icu) (l : ℕ) → ready c ≡ true → intOf c l ≡ true → acknowledgeOf c l ≡ naming c (takes c l) (servedOf c (takes c l))
@@ -72,14 +76,22 @@ module _ (c : Icu) (n : ℕ) (d : Icu) where
   named-vector : c .vector ≡ true → naming c n d ≡ telling d (vectorOf c n)
   named-vector v = ap named v
 
+-- A chip that is ready answers.
+pub answers-ready : (c : Icu) (l : ℕ) → ready c ≡ true → acknowledgeOf c l .status ≡ 0
+answers-ready c l set = go (intOf c l) refl
+  where
+    go : (q : Bool) → intOf c l ≡ q → acknowledgeOf c l .status ≡ 0
+    go true h = ap (λ (t : Told). t .status) (told-high c l set h) ∙ named-status c (takes c l) (servedOf c (takes c l))
+    go false h = ap (λ (t : Told). t .status) (told-low c l set h) ∙ named-status c 7 c
+
 -- The record, with the bus free.
-acknowledged : (b : Board) (m : List ℕ) → b .dma .serving ≡ false
-    → stepOf b acknowledging m ≡ answeredOf 4 (icuTold b (acknowledgeOf (b .icu) (lines b)))
+pub acknowledged : (b : Board) (m : List ℕ) → b .dma .serving ≡ false
+    → stepOf b acknowledging m ≡ answeredOf 4 (Board-does.acknowledgeOf b)
 unfolding stepOf decodeOf unused outcomeOf executeOf blocked
 acknowledged b m free = ap (answeredOf 4) (go (b .dma .serving) free)
   where
     o : Outcome
-    o = icuTold b (acknowledgeOf (b .icu) (lines b))
+    o = Board-does.acknowledgeOf b
 
     go : (q : Bool) → q ≡ false → (if q and true then refused 1 b else o) ≡ o
     go true h = absurd (true≢false h)
@@ -102,7 +114,7 @@ module _ (c : Icu) (n : ℕ) (h : n < 8) where
       go true false = refl
       go false q = refl
 
-  served-isr : c .isr < 256 → (k : ℕ) → k < 8 → bitOf (servedOf c n .isr) k ≡ (bitOf (c .isr) k or (not (c .sfi) and eqb k n))
+  pub served-isr : c .isr < 256 → (k : ℕ) → k < 8 → bitOf (servedOf c n .isr) k ≡ (bitOf (c .isr) k or (not (c .sfi) and eqb k n))
   unfolding servedOf
   served-isr e k l = go (c .sfi) (c .rotation)
     where
@@ -115,7 +127,7 @@ module _ (c : Icu) (n : ℕ) (h : n < 8) where
       go true false = none (bitOf (c .isr) k)
       go false q = added (c .isr) n k e h l
 
-  served-lowest : servedOf c n .lowest ≡ (if c .sfi and c .rotation then n else c .lowest)
+  pub served-lowest : servedOf c n .lowest ≡ (if c .sfi and c .rotation then n else c .lowest)
   unfolding servedOf
   served-lowest = go (c .sfi) (c .rotation)
     where
@@ -124,20 +136,12 @@ module _ (c : Icu) (n : ℕ) (h : n < 8) where
       go true false = refl
       go false q = refl
 
--- An acknowledge that is told so.
-module _ (b : Board) (m : List ℕ) (free : b .dma .serving ≡ false) (n : ℕ) (small : n < 8) (d : Icu)
-    (told : acknowledgeOf (b .icu) (lines b) ≡ naming (b .icu) n d) where
-  stepped-so : stepOf b acknowledging m ≡ answeredOf 4 (icuTold b (naming (b .icu) n d))
-  stepped-so = acknowledged b m free ∙ ap (λ (t : Told). answeredOf 4 (icuTold b t)) told
-
-  board-so : stepOf b acknowledging m .board ≡ icu-is d b
-  unfolding answeredOf
-  board-so = ap (λ (s : Stepped). s .board) stepped-so ∙ ap (λ (i : Icu). icu-is i b) (named-icu (b .icu) n d)
-
-  names-so : Names b m n
+-- An acknowledge that is answered by what a chip c tells, and leaves the board e.
+module _ (b : Board) (m : List ℕ) (c : Icu) (n : ℕ) (small : n < 8) (d : Icu) (e : Board)
+    (stepped : stepOf b acknowledging m ≡ answeredOf 4 (toldWith e (naming c n d))) where
+  pub named-so : Names c b m n
   unfolding answeredOf answerOf vectorOf callLowOf
-  names-so =
-      let c = b .icu in
+  named-so =
       let same : n % 8 ≡ n = mod-eq-of-lt small in
       record {
         vector = λ v.
@@ -154,34 +158,63 @@ module _ (b : Board) (m : List ℕ) (free : b .dma .serving ≡ false) (n : ℕ)
       answer : Told → List ℕ
       answer t = t .status ∷ 4 ∷ t .byte ∷ levelsOf (stepOf b acknowledging m .board) ∷ twelve (t .payload)
 
-      whole : stepOf b acknowledging m .answer ≡ answer (naming (b .icu) n d)
+      whole : stepOf b acknowledging m .answer ≡ answer (naming c n d)
       whole =
-          ap (λ (o : Stepped). o .answer) stepped-so
-          ∙ ap (λ (e : Board). naming (b .icu) n d .status ∷ 4 ∷ naming (b .icu) n d .byte ∷ levelsOf e ∷ twelve (naming (b .icu) n d .payload))
-          (sym (ap (λ (o : Stepped). o .board) stepped-so))
+          ap (λ (o : Stepped). o .answer) stepped
+          ∙ ap (λ (f : Board). naming c n d .status ∷ 4 ∷ naming c n d .byte ∷ levelsOf f ∷ twelve (naming c n d .payload))
+          (sym (ap (λ (o : Stepped). o .board) stepped))
 
--- With INT high, the highest-ranked level asked for is taken.
-pub highest-asked : (b : Board) → Fit b → int b ≡ true → (n : ℕ) × Highest (askedFor b) (b .icu .lowest) n × (takes (b .icu) (lines b) ≡ n)
-unfolding intOf
-highest-asked b f high =
-    let c = b .icu in
-    let w = found (λ n. bitOf (askedOf c (lines b)) n and outranksAll c n) 8 (both-right (ready c) _ high) in
-    let q = highest-of (askedOf c (lines b)) (c .lowest) (w .0) (f .lowest) (w .1) (both-left (bitOf (askedOf c (lines b)) (w .0)) (outranksAll c (w .0)) (w .2)) in
-    let n = q .0 in
-    let h = q .1 in (
-      n,
-      record {
+-- One that the master answers by itself.
+module _ (b : Board) (m : List ℕ) (free : b .dma .serving ≡ false) (here : passedOn (b .icu) (lines b) (b .slave) ≡ false) (turn : answered (b .icu) (b .slave) ≡ true)
+    (n : ℕ) (small : n < 8) (d : Icu) (told : acknowledgeOf (b .icu) (lines b) ≡ naming (b .icu) n d) where
+  by-master : Board-does.acknowledgeOf b ≡ icuTold b (naming (b .icu) n d)
+  unfolding Board-does.acknowledgeOf
+  by-master = rw (here, turn) (ap (λ (t : Told). icuTold b t) told)
+
+  stepped-so : stepOf b acknowledging m ≡ answeredOf 4 (icuTold b (naming (b .icu) n d))
+  stepped-so = acknowledged b m free ∙ ap (answeredOf 4) by-master
+
+  board-so : stepOf b acknowledging m .board ≡ icu-is d b
+  unfolding answeredOf
+  board-so = ap (λ (s : Stepped). s .board) stepped-so ∙ ap (λ (i : Icu). icu-is i b) (named-icu (b .icu) n d)
+
+  names-so : Names (b .icu) b m n
+  names-so = named-so b m (b .icu) n small d (icu-is (naming (b .icu) n d .icu) b) stepped-so
+
+-- With INT of a chip high, the highest-ranked level asked for is taken.
+module _ (c : Icu) (lines : ℕ) (asked : ℕ → Bool) (low : c .lowest < 8) (bits : (k : ℕ) → k < 8 → bitOf (askedOf c lines) k ≡ asked k) where
+  pub highest-taken : intOf c lines ≡ true → (n : ℕ) × Highest asked (c .lowest) n × (takes c lines ≡ n)
+  unfolding intOf
+  highest-taken high =
+      let w = found (λ n. bitOf (askedOf c lines) n and outranksAll c n) 8 (both-right (ready c) _ high) in
+      let q = highest-of (askedOf c lines) (c .lowest) (w .0) low (w .1) (both-left (bitOf (askedOf c lines) (w .0)) (outranksAll c (w .0)) (w .2)) in
+      let n = q .0 in
+      let h = q .1 in (
+        n,
+        record {
+          level = h .level;
+          chosen = sym (bits n (h .level)) ∙ h .chosen;
+          over = λ k l s ne. h .over k l (bits k l ∙ s) ne;
+        },
+        highest-is (askedOf c lines) (c .lowest) n low h,
+      )
+
+  pub takes-highest : (n : ℕ) → Highest asked (c .lowest) n → takes c lines ≡ n
+  takes-highest n h =
+      highest-is (askedOf c lines) (c .lowest) n low
+      (record {
         level = h .level;
-        chosen = sym (asked-bit b f n (h .level)) ∙ h .chosen;
-        over = λ k l s ne. h .over k l (asked-bit b f k l ∙ s) ne;
-      },
-      highest-is (askedOf c (lines b)) (c .lowest) n (f .lowest) h,
-    )
+        chosen = bits n (h .level) ∙ h .chosen;
+        over = λ k l s ne. h .over k l (sym (bits k l) ∙ s) ne;
+      })
 
-pub level-taken : {b : Board} → Reached b → (m : List ℕ) → b .dma .serving ≡ false → int b ≡ true
-    → (n : ℕ) × Highest (askedFor b) (b .icu .lowest) n × Takes b m n
+pub highest-asked : (b : Board) → Fit b → int b ≡ true → (n : ℕ) × Highest (askedFor b) (b .icu .lowest) n × (takes (b .icu) (lines b) ≡ n)
+highest-asked b f high = highest-taken (b .icu) (lines b) (askedFor b) (f .lowest) (asked-bit b f) high
+
+pub level-taken : {b : Board} → Reached b → (m : List ℕ) → b .dma .serving ≡ false → unanswered b ≡ false → int b ≡ true
+    → (n : ℕ) × Highest (askedFor b) (b .icu .lowest) n × ((extended (b .icu) and eqb n 7) ≡ false → Takes b m n)
 unfolding intOf
-level-taken {b} r m free high =
+level-taken {b} r m free turn high =
     let c = b .icu in
     let f = reached-fit r in
     let q = highest-asked b f high in
@@ -189,30 +222,38 @@ level-taken {b} r m free high =
     let small = q .1 .level in
     let told : acknowledgeOf c (lines b) ≡ naming c n (servedOf c n) =
     told-high c (lines b) (both-left (ready c) _ high) high ∙ ap (λ (i : ℕ). naming c i (servedOf c i)) (q .2) in
-    let s = board-so b m free n small (servedOf c n) told in (
+    let t = in-turn b turn in (
       n,
       q .1,
-      record {
-        names = names-so b m free n small (servedOf c n) told;
-        board = s;
-        edges = λ k l. ap (λ (d : Board). bitOf (d .icu .edges) k) s ∙ served-edges c n small (f .edges) k l;
-        isr = λ k l. ap (λ (d : Board). bitOf (d .icu .isr) k) s ∙ served-isr c n small (f .isr) k l;
-        lowest = ap (λ (d : Board). d .icu .lowest) s ∙ served-lowest c n small;
-      },
+      λ own.
+          let here = not-passed c (lines b) (b .slave) (rw (t .2, high, q .2) own) in
+          let s = board-so b m free here (t .1) n small (servedOf c n) told in
+          record {
+            names = names-so b m free here (t .1) n small (servedOf c n) told;
+            board = s;
+            edges = λ k l. ap (λ (d : Board). bitOf (d .icu .edges) k) s ∙ served-edges c n small (f .edges) k l;
+            isr = λ k l. ap (λ (d : Board). bitOf (d .icu .isr) k) s ∙ served-isr c n small (f .isr) k l;
+            lowest = ap (λ (d : Board). d .icu .lowest) s ∙ served-lowest c n small;
+          },
     )
 
 -- With INT low, level 7 is answered, and nothing changes.
-pub spurious : (b : Board) (m : List ℕ) → b .dma .serving ≡ false → b .icu .stage ≡ 3 → int b ≡ false
-    → (stepOf b acknowledging m .board ≡ b) × (stepMemory b acknowledging m ≡ m) × Names b m 7
+pub memory-left : (b : Board) (m : List ℕ) → stepMemory b acknowledging m ≡ m
 unfolding stepMemory decodeOf unused memoryOf memoryAfter blocked
-spurious b m free set low =
-    let told = told-low (b .icu) (lines b) (eq-eqb (b .icu .stage) 3 set) low in
-    let seven : 7 < 8 = omega arith in
-    (board-so b m free 7 seven (b .icu) told, memory-so (b .dma .serving), names-so b m free 7 seven (b .icu) told)
+memory-left b m = go (b .dma .serving)
   where
-    memory-so : (q : Bool) → (if q and true then m else m) ≡ m
-    memory-so true = refl
-    memory-so false = refl
+    go : (q : Bool) → (if q and true then m else m) ≡ m
+    go true = refl
+    go false = refl
+
+pub spurious : (b : Board) (m : List ℕ) → b .dma .serving ≡ false → unanswered b ≡ false → int b ≡ false
+    → (stepOf b acknowledging m .board ≡ b) × (stepMemory b acknowledging m ≡ m) × Names (b .icu) b m 7
+spurious b m free turn low =
+    let t = in-turn b turn in
+    let told = told-low (b .icu) (lines b) (t .0) low in
+    let seven : 7 < 8 = omega arith in
+    let here = not-passed (b .icu) (lines b) (b .slave) (rw low (and-false (together (answererOf (b .icu) (b .slave))))) in
+    (board-so b m free here (t .1) 7 seven (b .icu) told, memory-left b m, names-so b m free here (t .1) 7 seven (b .icu) told)
 
 -- What the board tells of a cycle.
 abbrev told-of : Board → DmaCycle.Out → Outcome
@@ -405,7 +446,7 @@ nothing-granted b e x m h sv why =
 
 -- A reset.
 pub reset-is-fresh : (b : Board) (m : List ℕ)
-    → (stepOf b resetting m .board ≡ record { icu = freshOf .icu; intp = 0; timer = freshOf .timer; dma = freshOf .dma; kept = b .kept })
+    → (stepOf b resetting m .board ≡ record { icu = freshOf .icu; intp = 0; slave = freshOf .slave; slaveintp = 0; timer = freshOf .timer; dma = freshOf .dma; kept = b .kept })
     × (stepMemory b resetting m ≡ m)
 unfolding stepOf stepMemory answeredOf decodeOf unused outcomeOf memoryOf executeOf memoryAfter blocked freshOf
 reset-is-fresh b m = (go (b .dma .serving), stays (b .dma .serving))

@@ -24,7 +24,7 @@ use Rattle.promises.proofs.Logic.{or-first, or-second}
 use Rattle.promises.proofs.Plain.{no-bit}
 use Rattle.promises.proofs.BoardKept.{Held, after-held, reached-held}
 use Rattle.promises.proofs.Sizes.{Sized, after-sized, record-bytes, call-bytes, reached-keeps}
-use Rattle.promises.proofs.Requested.{Fit}
+use Rattle.promises.proofs.Requested.{Fit, fit-of}
 use Rattle.promises.proofs.Edges.{Backed, Goes, starts, takes-it, goes-on, goes}
 
 -- From a board that is held and sized, on which level k is backed: so it is at the end of each record.
@@ -39,7 +39,7 @@ module _ (b : Board) (h : Held b) (z : Sized b) (k : ℕ) (low : k < 8) (first :
   fit n =
       let y = after-held b m s n h in
       let x = after-sized b m s n bytes z in
-      record { intp = x .intp; edges = x .icu .3; isr = y .icu .isr; imr = x .icu .2; lowest = y .icu .lowest }
+      fit-of (here n) y x
 
   -- One record more.
   abbrev Next : ℕ → Type 0
@@ -184,7 +184,7 @@ fresh-backed : (k : ℕ) → k < 8 → Backed freshOf k
 unfolding freshOf IcuWords.resetOf
 fresh-backed k l x = absurd (true≢false (sym x ∙ no-bit k l))
 
-reached-backed : {b : Board} → Reached b → (k : ℕ) → k < 8 → Backed b k
+pub reached-backed : {b : Board} → Reached b → (k : ℕ) → k < 8 → Backed b k
 unfolding fedOf
 reached-backed unfed k l = fresh-backed k l
 reached-backed (fed {b = b} t m room h _ g) k l =

@@ -1,5 +1,5 @@
 -- The worked boards, by computing; and what is taught, said of them.
-use mathlib.Core.Path.{_≡_, refl, ap}
+use mathlib.Core.Path.{_≡_, refl, sym, ap, subst}
 use mathlib.Core.List.{List, [], _∷_, _++_}
 use mathlib.Core.Bool.{true, false}
 use Prim.Native.Nat.{ℕ, zero, suc, _<_}
@@ -13,14 +13,14 @@ use Rattle.board.specs.declared.Board.{Board}
 use Rattle.board.specs.Wiring.{freshOf}
 use Rattle.board.specs.Records.{recordAt, after}
 use Rattle.intake.specs.Feed.{fedMemory, fedAnswers}
-use Rattle.promises.specs.Records.{pulsing, cycling, joined}
-use Rattle.promises.specs.Table.{formed, uses, among}
-use Rattle.promises.specs.Words.{answerAt, answersIn, unitsOf, dataIn, Calm, CalmFrom, Further, none as none-more, call, asks}
+use Rattle.promises.specs.Records.{setting, pulsing, cycling, joined}
+use Rattle.promises.specs.Table.{formed, uses, among, unanswered}
+use Rattle.promises.specs.Words.{answerAt, answersIn, unitsOf, dataIn, Highest, askedFor, Calm, CalmFrom, Further, none as none-more, call, asks}
 use Rattle.promises.specs.Reached.{Reached, unfed, fed}
 use Rattle.promises.specs.TaughtWords.{low-byte, reloadsNext, Clocks, a-pulse, the-gates, Unread, readAt, plainCycle, Alone}
 use Rattle.promises.specs.Waves.{Loaded}
 use Rattle.promises.specs.Chopped.{Lump, called, lumpByLump, joinedTape, Room, Each, none as no-call, call as call-with}
-use Rattle.promises.specs.Worked.{chopped as chopped-tape, firstLump, emptyLump, lastLumps, oneLump, sevenAndFive, rising, setup, further, memory, board, timing, dividing, pulses, armed, started, retriggering, starting, halved, between, latched, busy, requesting, waiting, serving, cycles, bouncing, beating, ticking, masking, outranked, Worked}
+use Rattle.promises.specs.Worked.{chopped as chopped-tape, firstLump, emptyLump, lastLumps, oneLump, sevenAndFive, rising, setup, further, memory, board, timing, dividing, pulses, armed, started, retriggering, starting, halved, between, latched, busy, requesting, waiting, serving, cycles, bouncing, beating, ticking, masking, outranked, bothSet, cascading, idling, deaf, calling, Worked}
 use Rattle.promises.proofs.Opened.{rules}
 use Rattle.promises.proofs.Sizes.{areBytes, small-bytes, reached-typed}
 use Rattle.promises.proofs.Chopped.{chopped}
@@ -28,6 +28,9 @@ use Rattle.promises.proofs.Taught.{taught}
 use Rattle.promises.proofs.Modes.{modes}
 use Rattle.promises.proofs.Withdrawn.{withdrawn}
 use Rattle.promises.proofs.Meant.{meant}
+use Rattle.promises.proofs.Requested.{reached-fit}
+use Rattle.promises.proofs.Taken.{highest-asked}
+use Rattle.promises.proofs.Cascade.{cascade}
 
 calm : Calm board memory further 5
 unfolding rules setup further memory board answerAt answersIn unitsOf joined
@@ -131,8 +134,21 @@ unfolding serving requesting joined areBytes
 reached-serving =
     fed (joined (requesting 4 ++ cycling 7 ∷ [])) [] 80 (small-bytes (joined (requesting 4 ++ cycling 7 ∷ [])) refl) (small-bytes [] refl) unfed
 
+reached-cascading : Reached cascading
+unfolding cascading bothSet joined areBytes
+reached-cascading = fed (joined (bothSet ++ setting 3 4 ∷ [])) [] 144 (small-bytes (joined (bothSet ++ setting 3 4 ∷ [])) refl) (small-bytes [] refl) unfed
+
+reached-idling : Reached idling
+unfolding idling bothSet joined areBytes
+reached-idling = fed (joined (bothSet ++ setting 0 128 ∷ [])) [] 144 (small-bytes (joined (bothSet ++ setting 0 128 ∷ [])) refl) (small-bytes [] refl) unfed
+
+-- Level 7 is the one that is taken.
+seventh : Highest (askedFor idling) (idling .icu .lowest) 7
+unfolding rules idling bothSet joined
+seventh = let q = highest-asked idling (reached-fit reached-idling) refl in subst (Highest (askedFor idling) (idling .icu .lowest)) (sym (q .2)) (q .1)
+
 pub worked : Worked
-unfolding rules chopped-tape firstLump emptyLump lastLumps oneLump sevenAndFive rising lumpByLump joinedTape setup further memory board timing dividing pulses armed started retriggering halved between latched busy requesting waiting serving cycles bouncing beating ticking masking outranked answerAt answersIn unitsOf joined areBytes among
+unfolding rules chopped-tape firstLump emptyLump lastLumps oneLump sevenAndFive rising lumpByLump joinedTape setup further memory board timing dividing pulses armed started retriggering halved between latched busy requesting waiting serving cycles bouncing beating ticking masking outranked answerAt answersIn unitsOf joined areBytes among unanswered bothSet cascading idling deaf calling
 worked =
     record {
       reached = fed setup memory 80 (small-bytes setup refl) (small-bytes memory refl) unfed;
@@ -185,5 +201,16 @@ worked =
       still-masked = (refl, refl);
       outranked-7 = ap dataIn (meant .spurious (after freshOf [] outranked 6 .board) [] refl refl refl .2 .vector refl);
       still-served = refl;
+      cascading-reached = reached-cascading;
+      offered = refl;
+      both-served = (refl, refl);
+      slave-finished = (refl, refl);
+      idling-reached = reached-idling;
+      idle-7 = ap dataIn (cascade .passed-on reached-idling [] refl refl refl refl seventh .idle refl .0 .vector refl);
+      idle-stays = refl;
+      master-int = (refl, refl);
+      deaf-7 = (refl, refl);
+      slave-call = refl;
+      unready-3 = refl;
       demanded = taught .held-moves-one-more {b = serving} reached-serving [] cycles 0 2 refl refl refl refl (λ i l. plain i (omega arith)) .0;
     }

@@ -54,19 +54,19 @@ pub record OfRecord (b : Board) (r m : List ℕ) : Type 0 where
   -- Not so: a board that lets the processor read status while DMA has the bus; one that holds up a bus cycle or a reset.
   pub row-1 : (statusOf b r m ≡ 1) ↔ ((formed r and held b r) ≡ true)
   -- 3: out of turn.
-  -- Not so: a board that takes IW2 before IW1; one that reads a counter with no mode as 0.
+  -- Not so: a board that takes IW2 before IW1; one that reads a counter with no mode as 0; one on which an extended master answers for a slave that is not ready.
   pub row-3 : (statusOf b r m ≡ 3) ↔ ((formed r and not (held b r) and outOfTurn b r) ≡ true)
   -- 4: not built.
-  -- Not so: a board that takes a BCD word and counts in binary; one that refuses a latch for its mode bits.
-  pub row-4 : (statusOf b r m ≡ 4) ↔ ((formed r and not (held b r) and not (outOfTurn b r) and notBuilt r) ≡ true)
+  -- Not so: a board that takes a BCD word and counts in binary; one that refuses a latch for its mode bits; one that takes a slave's IW3 that names another line.
+  pub row-4 : (statusOf b r m ≡ 4) ↔ ((formed r and not (held b r) and not (outOfTurn b r) and notBuilt b r) ≡ true)
   -- 6: count 1 completed in mode 2 or 3.
   -- Not so: a board that refuses count 1 in mode 0, 1, 4 or 5; one that refuses the low byte 1 of a count of two bytes.
   pub row-6 : (statusOf b r m ≡ 6)
-      ↔ ((formed r and not (held b r) and not (outOfTurn b r) and not (notBuilt r) and countsOne b r) ≡ true)
+      ↔ ((formed r and not (held b r) and not (outOfTurn b r) and not (notBuilt b r) and countsOne b r) ≡ true)
   -- 0: done, exactly if no other row is met.
   -- Not so: a board that refuses everything; one that takes everything.
   pub row-0 : (statusOf b r m ≡ 0)
-      ↔ ((formed r and not (held b r) and not (outOfTurn b r) and not (notBuilt r) and not (countsOne b r)) ≡ true)
+      ↔ ((formed r and not (held b r) and not (outOfTurn b r) and not (notBuilt b r) and not (countsOne b r)) ≡ true)
 
 -- The bytes of a call: those that are kept, then the tape. They make k whole records.
 abbrev pub callBytes : Board → List ℕ → List ℕ
@@ -103,6 +103,8 @@ pub record Taken (b : Board) (tape m answers : List ℕ) : Type 0 where
   -- Not so: a board that answers rightly and forgets what it did; one that hands the memory back as it was.
   pub icu : fedOf b tape m (length answers) .board .icu ≡ afterFirst b tape m (wholeRecords b tape) .board .icu
   pub intp : fedOf b tape m (length answers) .board .intp ≡ afterFirst b tape m (wholeRecords b tape) .board .intp
+  pub slave : fedOf b tape m (length answers) .board .slave ≡ afterFirst b tape m (wholeRecords b tape) .board .slave
+  pub slaveintp : fedOf b tape m (length answers) .board .slaveintp ≡ afterFirst b tape m (wholeRecords b tape) .board .slaveintp
   pub timer : fedOf b tape m (length answers) .board .timer ≡ afterFirst b tape m (wholeRecords b tape) .board .timer
   pub dma : fedOf b tape m (length answers) .board .dma ≡ afterFirst b tape m (wholeRecords b tape) .board .dma
   pub memory : fedMemory b tape m (length answers) ≡ afterFirst b tape m (wholeRecords b tape) .memory

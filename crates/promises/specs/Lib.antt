@@ -11,6 +11,8 @@ pub mod Chopped
 pub mod Waves
 pub mod Withdrawn
 pub mod Meant
+pub mod OneChip
+pub mod Cascade
 pub mod Worked
 pub mod Examples
 pub mod Promises

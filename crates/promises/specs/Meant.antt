@@ -11,36 +11,38 @@ use Rattle.bits.specs.Choice.{if_then_else_, _and_, _or_}
 use Rattle.bits.specs.Bits.{bitOf}
 use Rattle.dma.specs.declared.Span.{Span}
 use Rattle.dma.specs.Cycle.{stepped}
+use Rattle.icu.specs.declared.Icu.{Icu}
 use Rattle.icu.specs.Service.{servedOf}
 use Rattle.board.specs.declared.Board.{Board}
 use Rattle.board.specs.Wiring.{freshOf, icu-is, int, levelsOf}
 use Rattle.board.specs.Step.{stepOf, stepMemory}
 use Rattle.promises.specs.Records.{resetting, acknowledging, cyclingWith}
-use Rattle.promises.specs.Words.{unitAt, lastAt, dataIn, placeOf, inside, before, Highest, askedFor, inService, asks, Foremost}
+use Rattle.promises.specs.Words.{unitAt, lastAt, dataIn, placeOf, inside, before, Highest, askedFor, asks, Foremost}
 use Rattle.promises.specs.Reached.{Reached}
+use Rattle.promises.specs.Table.{extended, unanswered}
 
 -- No answer reports a unit at p by a channel of w.
 pub data None (w : ℕ → Bool) (p : ℕ) : List (List ℕ) → Type 0 where
   empty : None w p []
   misses : {a : List ℕ} {more : List (List ℕ)} → unitAt w p a ≡ false → None w p more → None w p (a ∷ more)
 
--- An acknowledge is answered as level n: status 0, operation 4, and the levels after it. In vector mode the data is IW2's upper five bits and n, and the payload zero; in CALL mode the data
--- is zero, and the payload CDH (205), the low address byte, of A7-A5 and 4 n with AG4=1 (D2 of IW1) or A7-A6 and 8 n with AG4=0, IW2, and zeros.
-abbrev pub callLow : Board → ℕ → ℕ
-callLow b n = if bitOf (b .icu .iw1) 2 then b .icu .iw1 / 32 * 32 + n * 4 else b .icu .iw1 / 64 * 64 + n * 8
+-- An acknowledge is answered as level n of the chip c: status 0, operation 4, and the levels after it. In vector mode the data is IW2's upper five bits and n, and the payload zero; in CALL mode the
+-- data is zero, and the payload CDH (205), the low address byte, of A7-A5 and 4 n with AG4=1 (D2 of IW1) or A7-A6 and 8 n with AG4=0, IW2, and zeros.
+abbrev pub callLow : Icu → ℕ → ℕ
+callLow c n = if bitOf (c .iw1) 2 then c .iw1 / 32 * 32 + n * 4 else c .iw1 / 64 * 64 + n * 8
 
-pub record Names (b : Board) (m : List ℕ) (n : ℕ) : Type 0 where
-  pub vector : b .icu .vector ≡ true
+pub record Names (c : Icu) (b : Board) (m : List ℕ) (n : ℕ) : Type 0 where
+  pub vector : c .vector ≡ true
       → stepOf b acknowledging m .answer
-      ≡ 0 ∷ 4 ∷ (b .icu .iw2 / 8 * 8 + n) ∷ levelsOf (stepOf b acknowledging m .board) ∷ replicate 12 0
-  pub call : b .icu .vector ≡ false
+      ≡ 0 ∷ 4 ∷ (c .iw2 / 8 * 8 + n) ∷ levelsOf (stepOf b acknowledging m .board) ∷ replicate 12 0
+  pub call : c .vector ≡ false
       → stepOf b acknowledging m .answer
-      ≡ 0 ∷ 4 ∷ 0 ∷ levelsOf (stepOf b acknowledging m .board) ∷ 205 ∷ callLow b n ∷ b .icu .iw2 ∷ replicate 9 0
+      ≡ 0 ∷ 4 ∷ 0 ∷ levelsOf (stepOf b acknowledging m .board) ∷ 205 ∷ callLow c n ∷ c .iw2 ∷ replicate 9 0
 
--- An acknowledge takes level n: it is answered so, its edge request goes, and its ISR bit is set; in self-FI ISR stays and, with rotation on, n becomes lowest. Nothing else of
+-- An acknowledge takes level n of the master, which gives the bytes: it is answered so, its edge request goes, and its ISR bit is set; in self-FI ISR stays and, with rotation on, n becomes lowest. Nothing else of
 -- the board changes.
 pub record Takes (b : Board) (m : List ℕ) (n : ℕ) : Type 0 where
-  pub names : Names b m n
+  pub names : Names (b .icu) b m n
   pub board : stepOf b acknowledging m .board ≡ icu-is (servedOf (b .icu) n) b
   pub edges : (k : ℕ) → k < 8 → bitOf (stepOf b acknowledging m .board .icu .edges) k ≡ (bitOf (b .icu .edges) k and not (eqb k n))
   pub isr : (k : ℕ) → k < 8
@@ -58,12 +60,12 @@ pub record Grants (b : Board) (e x : ℕ) (m : List ℕ) (n : ℕ) : Type 0 wher
   pub end : getD (stepOf b (cyclingWith e x) m .answer) 6 0 ≡ 0
   pub memory : stepMemory b (cyclingWith e x) m ≡ m
 
--- Some level is asked for that comes before every level in service.
-pub record Outranking (b : Board) : Type 0 where
+-- Some level of those wanted comes before every level that the chip c has in service.
+pub record Outranking (wanted : ℕ → Bool) (c : Icu) : Type 0 where
   pub level : ℕ
   pub low : level < 8
-  pub asked : askedFor b level ≡ true
-  pub over : (k : ℕ) → k < 8 → inService b k ≡ true → before (b .icu .lowest) level < before (b .icu .lowest) k
+  pub asked : wanted level ≡ true
+  pub over : (k : ℕ) → k < 8 → bitOf (c .isr) k ≡ true → before (c .lowest) level < before (c .lowest) k
 
 pub record Meant : Type 0 where
   -- The place 0 places on is the address itself, and each further place is the one to which the chip steps from the place before.
@@ -88,16 +90,17 @@ pub record Meant : Type 0 where
       → lastAt w p (earlier ++ a ∷ later) x ≡ dataIn a
   -- INT is high exactly if the chip is ready and some level asked for outranks every level in service.
   -- Not so: a board on which a level outranks itself; one on which a masked level in service does not block those below it.
-  pub int-rule : {b : Board} → Reached b → (int b ≡ true) ↔ ((b .icu .stage ≡ 3) × Outranking b)
-  -- With INT high and the bus free, an acknowledge takes the level that is asked for and that no other one asked for outranks.
+  pub int-rule : {b : Board} → Reached b → (int b ≡ true) ↔ ((b .icu .stage ≡ 3) × Outranking (askedFor b) (b .icu))
+  -- With INT high and the bus free, an acknowledge that is in turn takes the level that is asked for and that no other one asked for outranks. An extended master passes level 7 on (Cascade.antt,
+  -- passed-on); for any other level it gives the bytes, and a single master gives them for 7, too.
   -- Not so: a board that takes the lowest number, whatever its rank; one that takes a masked level.
-  pub level-taken : {b : Board} → Reached b → (m : List ℕ) → b .dma .serving ≡ false → int b ≡ true
-      → (n : ℕ) × Highest (askedFor b) (b .icu .lowest) n × Takes b m n
-  -- With INT low, for whatever reason, the chip ready and the bus free, an acknowledge is answered as level 7 and leaves the whole board and the memory as they were: no ISR bit, no
+  pub level-taken : {b : Board} → Reached b → (m : List ℕ) → b .dma .serving ≡ false → unanswered b ≡ false → int b ≡ true
+      → (n : ℕ) × Highest (askedFor b) (b .icu .lowest) n × ((extended (b .icu) and eqb n 7) ≡ false → Takes b m n)
+  -- With INT low, for whatever reason, and the bus free, an acknowledge that is in turn is answered as level 7 of the master and leaves the whole board, the slave too, and the memory as they were: no ISR bit, no
   -- request, no rank changes, in self-FI too.
   -- Not so: a board that sets ISR bit 7, or makes level 7 lowest; one that takes a masked level, or clears its request; one that answers as the level in service.
-  pub spurious : (b : Board) (m : List ℕ) → b .dma .serving ≡ false → b .icu .stage ≡ 3 → int b ≡ false
-      → (stepOf b acknowledging m .board ≡ b) × (stepMemory b acknowledging m ≡ m) × Names b m 7
+  pub spurious : (b : Board) (m : List ℕ) → b .dma .serving ≡ false → unanswered b ≡ false → int b ≡ false
+      → (stepOf b acknowledging m .board ≡ b) × (stepMemory b acknowledging m ≡ m) × Names (b .icu) b m 7
   -- With the bus free, the chip enabled and some channel asking, a cycle grants the bus to the channel that asks and that no other one asking
   -- outranks, whatever END and the device have.
   -- Not so: a board that with END grants channel 0, whichever asks; one that goes on from the last served with fixed rank.
@@ -115,5 +118,5 @@ pub record Meant : Type 0 where
   -- Operation 0 leaves a board as one that was never fed has it, but for the bytes that are kept, and leaves the memory.
   -- Not so: a board that keeps a mode or a mask; one that clears memory.
   pub reset-is-fresh : (b : Board) (m : List ℕ)
-      → (stepOf b resetting m .board ≡ record { icu = freshOf .icu; intp = 0; timer = freshOf .timer; dma = freshOf .dma; kept = b .kept })
+      → (stepOf b resetting m .board ≡ record { icu = freshOf .icu; intp = 0; slave = freshOf .slave; slaveintp = 0; timer = freshOf .timer; dma = freshOf .dma; kept = b .kept })
       × (stepMemory b resetting m ≡ m)

@@ -9,6 +9,7 @@ use Rattle.promises.specs.Modes.{Modes}
 use Rattle.promises.specs.Waves.{Waves}
 use Rattle.promises.specs.Withdrawn.{Withdrawn}
 use Rattle.promises.specs.Meant.{Meant}
+use Rattle.promises.specs.Cascade.{Cascade}
 use Rattle.promises.specs.Worked.{Worked}
 use Rattle.promises.specs.Examples.{Examples}
 
@@ -22,5 +23,6 @@ pub record Promises : Type 0 where
   pub waves : Waves
   pub withdrawn : Withdrawn
   pub meant : Meant
+  pub cascade : Cascade
   pub worked : Worked
   pub examples : Examples

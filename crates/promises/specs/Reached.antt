@@ -4,6 +4,7 @@ use mathlib.Core.Bool.{true}
 use mathlib.Core.List.{List}
 use Prim.Native.Nat.{ℕ, _-_, _*_, _≤_, _<_}
 use lib.ListN.{getD, take, length}
+use Rattle.icu.specs.declared.Icu.{Icu}
 use Rattle.timer.specs.Timer.{at}
 use Rattle.dma.specs.Fields.{chan}
 use Rattle.board.specs.declared.Board.{Board}
@@ -24,15 +25,20 @@ pub data Reached : Board → Type 0 where
   unfed : Reached freshOf
   fed : {b : Board} (tape memory : List ℕ) (room : ℕ) → Bytes tape → Bytes memory → Reached b → Reached (fedOf b tape memory room .board)
 
--- What the types of the program say of every board: three counters, four channels, room for seven kept bytes, and the width of each
+-- What the types of the program say of an interrupt chip, and of every board: three counters, four channels, room for seven kept bytes, and the width of each
 -- number that its range leaves to its type.
+pub record TypedIcu (c : Icu) : Type 0 where
+  pub iw1 : c .iw1 < 256
+  pub iw2 : c .iw2 < 256
+  pub edges : c .edges < 256
+  pub isr : c .isr < 256
+  pub imr : c .imr < 256
+
 pub record Typed (b : Board) : Type 0 where
-  pub iw1 : b .icu .iw1 < 256
-  pub iw2 : b .icu .iw2 < 256
-  pub edges : b .icu .edges < 256
-  pub isr : b .icu .isr < 256
-  pub imr : b .icu .imr < 256
+  pub icu : TypedIcu (b .icu)
   pub intp : b .intp < 256
+  pub slave : TypedIcu (b .slave)
+  pub slaveintp : b .slaveintp < 256
   pub three : length (b .timer .counters) ≡ 3
   pub value : (n : ℕ) → at (b .timer) n .value < 65536
   pub count : (n : ℕ) → at (b .timer) n .count < 65536
@@ -47,7 +53,8 @@ pub record Typed (b : Board) : Type 0 where
 
 -- A board with no byte of a cut record kept.
 abbrev pub uncut : Board → Board
-uncut b = record { icu = b .icu; intp = b .intp; timer = b .timer; dma = b .dma; kept = nothingKept }
+uncut b =
+    record { icu = b .icu; intp = b .intp; slave = b .slave; slaveintp = b .slaveintp; timer = b .timer; dma = b .dma; kept = nothingKept }
 
 pub record ReachedBoards : Type 0 where
   -- Whatever tapes, memories and buffers the calls are given, the next call finds each field in its range, and is never refused for one.

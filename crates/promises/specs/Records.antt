@@ -9,7 +9,7 @@ writing p x = 1 ∷ p ∷ x ∷ 0 ∷ 0 ∷ 0 ∷ 0 ∷ 0 ∷ []
 abbrev pub reading : ℕ → List ℕ
 reading p = 2 ∷ p ∷ 0 ∷ 0 ∷ 0 ∷ 0 ∷ 0 ∷ 0 ∷ []
 
--- A group of lines (0 INTP, 1 gates, 2 DMA requests) at some levels.
+-- A group of lines (0 INTP, 1 gates, 2 DMA requests, 3 the slave's) at some levels.
 abbrev pub setting : ℕ → ℕ → List ℕ
 setting group levels = 3 ∷ group ∷ levels ∷ 0 ∷ 0 ∷ 0 ∷ 0 ∷ 0 ∷ []
 

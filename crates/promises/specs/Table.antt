@@ -1,6 +1,6 @@
 -- The table of the status numbers, read again: what each row says of a record r that comes to a board b, in the numbers and bits of the
 -- document, and in none of the words of the rules. Status 5 has no row: it is never given. Numbers are decimal here; 10H is 16, 20H is 32,
--- 30H is 48.
+-- 30H is 48, 80H is 128.
 use mathlib.Core.Bool.{Bool, false, not}
 use mathlib.Core.List.{List, [], _∷_}
 use Prim.Native.Nat.{ℕ, _+_, _*_, _/_, _%_}
@@ -46,17 +46,19 @@ uses r places =
     and usedOrZero r places 6
     and usedOrZero r places 7
 
--- 00H-01H, 10H-13H and 20H-2FH. Writes: all but 27H (39) and 2BH (43). Reads: all but 13H (19), 20H (32) and 27H.
+-- 00H-01H, 10H-13H, 20H-2FH and 30H-31H. Writes: all but 27H (39) and 2BH (43). Reads: all but 13H (19), 20H (32) and 27H.
 abbrev pub toWrite : List ℕ
-toWrite = 0 ∷ 1 ∷ 16 ∷ 17 ∷ 18 ∷ 19 ∷ 32 ∷ 33 ∷ 34 ∷ 35 ∷ 36 ∷ 37 ∷ 38 ∷ 40 ∷ 41 ∷ 42 ∷ 44 ∷ 45 ∷ 46 ∷ 47 ∷ []
+toWrite =
+    0 ∷ 1 ∷ 16 ∷ 17 ∷ 18 ∷ 19 ∷ 32 ∷ 33 ∷ 34 ∷ 35 ∷ 36 ∷ 37 ∷ 38 ∷ 40 ∷ 41 ∷ 42 ∷ 44 ∷ 45 ∷ 46 ∷ 47 ∷ 48 ∷ 49 ∷ []
 
 abbrev pub toRead : List ℕ
-toRead = 0 ∷ 1 ∷ 16 ∷ 17 ∷ 18 ∷ 33 ∷ 34 ∷ 35 ∷ 36 ∷ 37 ∷ 38 ∷ 40 ∷ 41 ∷ 42 ∷ 43 ∷ 44 ∷ 45 ∷ 46 ∷ 47 ∷ []
+toRead =
+    0 ∷ 1 ∷ 16 ∷ 17 ∷ 18 ∷ 33 ∷ 34 ∷ 35 ∷ 36 ∷ 37 ∷ 38 ∷ 40 ∷ 41 ∷ 42 ∷ 43 ∷ 44 ∷ 45 ∷ 46 ∷ 47 ∷ 48 ∷ 49 ∷ []
 
--- Group 0 has no bit 0, group 1 the bits 0 to 2, group 2 the bits 0 to 3.
+-- Group 0 has no bit 0, group 1 the bits 0 to 2, group 2 the bits 0 to 3, group 3 all eight.
 unfoldable pub levelsFit : ℕ → ℕ → Bool
 levelsFit group levels =
-    if eqb group 0 then eqb (levels % 2) 0 else if eqb group 1 then ltb levels 8 else if eqb group 2 then ltb levels 16 else false
+    if eqb group 0 then eqb (levels % 2) 0 else if eqb group 1 then ltb levels 8 else if eqb group 2 then ltb levels 16 else eqb group 3
 
 -- Bytes 4 to 7, little end first.
 abbrev pub pulses : List ℕ → ℕ
@@ -77,13 +79,30 @@ formed r =
 unfoldable pub held : Board → List ℕ → Bool
 held b r = b .dma .serving and (eqb (op r) 1 or eqb (op r) 2 or eqb (op r) 4)
 
--- Row 3, out of turn. The interrupt chip's stages: 1 awaits IW2, 2 awaits IW4, 3 is ready. Until it is ready its reads, an acknowledge and writes at
--- 00H with D4=0 are out of turn; before the first IW1, in none of the three, writes at 01H too.
+-- Row 3, out of turn. An interrupt chip's stages: 1 awaits IW2, 4 awaits IW3, 2 awaits IW4, 3 is ready. Until it is ready its reads, and writes at its first port (00H, and 30H for
+-- the slave) with D4=0, are out of turn; before the first IW1, in none of the four, writes at its second port too.
 abbrev pub unready : Icu → Bool
 unready c = not (eqb (c .stage) 3)
 
 abbrev pub unstarted : Icu → Bool
-unstarted c = not (among (c .stage) (1 ∷ 2 ∷ 3 ∷ []))
+unstarted c = not (among (c .stage) (1 ∷ 2 ∷ 3 ∷ 4 ∷ []))
+
+abbrev pub wordless : Icu → ℕ → Bool
+wordless c x = not (bitOf x 4) and unready c
+
+-- An acknowledge is out of turn until the master is ready; while one of the two chips is ready and extended (IW1 with D1=0) and the other is not; and while both are, one in vector mode and
+-- the other in CALL mode.
+abbrev pub extended : Icu → Bool
+extended c = eqb (c .stage) 3 and not (bitOf (c .iw1) 1)
+
+abbrev pub differ : Bool → Bool → Bool
+differ p q = if p then not q else q
+
+unfoldable pub unanswered : Board → Bool
+unanswered b =
+    unready (b .icu)
+    or differ (extended (b .icu)) (extended (b .slave))
+    or (extended (b .icu) and differ (b .icu .vector) (b .slave .vector))
 
 -- So is latching, reading or writing counter n with no mode set. The control word, at 13H, names a counter in D7-D6 (11 is none), and latches it with 00 in D5-D4.
 abbrev pub modeless : Timer → ℕ → Bool
@@ -95,22 +114,29 @@ latchesModeless t x = not (eqb (x / 64) 3) and eqb (x / 16 % 4) 0 and modeless t
 unfoldable pub outOfTurn : Board → List ℕ → Bool
 outOfTurn b r =
     if eqb (op r) 1 then
-    (if eqb (byte1 r) 0 then not (bitOf (byte2 r) 4) and unready (b .icu)
+    (if eqb (byte1 r) 0 then wordless (b .icu) (byte2 r)
     else if eqb (byte1 r) 1 then unstarted (b .icu)
+    else if eqb (byte1 r) 48 then wordless (b .slave) (byte2 r)
+    else if eqb (byte1 r) 49 then unstarted (b .slave)
     else if eqb (byte1 r) 16 then modeless (b .timer) 0
     else if eqb (byte1 r) 17 then modeless (b .timer) 1
     else if eqb (byte1 r) 18 then modeless (b .timer) 2
     else eqb (byte1 r) 19 and latchesModeless (b .timer) (byte2 r))
     else if eqb (op r) 2 then
     (if among (byte1 r) (0 ∷ 1 ∷ []) then unready (b .icu)
+    else if among (byte1 r) (48 ∷ 49 ∷ []) then unready (b .slave)
     else if eqb (byte1 r) 16 then modeless (b .timer) 0
     else if eqb (byte1 r) 17 then modeless (b .timer) 1
     else eqb (byte1 r) 18 and modeless (b .timer) 2)
-    else eqb (op r) 4 and unready (b .icu)
+    else eqb (op r) 4 and unanswered b
 
--- Row 4, not built. At 00H: IW1 (D4=1) with D1=0; MCW (D4=0, D3=1) with POL=1 (D2), or with SNW=1 (D6, which the sheet calls SNM) and EXCN=1 (D5).
+-- Row 4, not built. At 00H and 30H: MCW (D4=0, D3=1) with POL=1 (D2), or with SNW=1 (D6, which the sheet calls SNM) and EXCN=1 (D5). At 01H and 31H, while IW3 is awaited: any
+-- but 80H for the master and 07H for the slave.
 abbrev pub unbuiltWord : ℕ → Bool
-unbuiltWord x = if bitOf x 4 then not (bitOf x 1) else bitOf x 3 and (bitOf x 2 or (bitOf x 6 and bitOf x 5))
+unbuiltWord x = not (bitOf x 4) and bitOf x 3 and (bitOf x 2 or (bitOf x 6 and bitOf x 5))
+
+abbrev pub otherWiring : Icu → ℕ → ℕ → Bool
+otherWiring c w x = eqb (c .stage) 4 and not (eqb x w)
 
 -- At 13H: counter 11 in D7-D6. Otherwise, unless D5-D4 are 00, which is a latch: BCD in D0.
 abbrev pub unbuiltControl : ℕ → Bool
@@ -124,10 +150,12 @@ abbrev pub unbuiltDeviceControl : ℕ → Bool
 unbuiltDeviceControl x = bitOf x 0 or bitOf x 1 or bitOf x 3 or bitOf x 5 or bitOf x 6 or bitOf x 7
 
 -- 20H with D1=1; 29H not zero; any use of 2CH, 2DH and 2EH.
-unfoldable pub notBuilt : List ℕ → Bool
-notBuilt r =
+unfoldable pub notBuilt : Board → List ℕ → Bool
+notBuilt b r =
     if eqb (op r) 1 then
-    (if eqb (byte1 r) 0 then unbuiltWord (byte2 r)
+    (if among (byte1 r) (0 ∷ 48 ∷ []) then unbuiltWord (byte2 r)
+    else if eqb (byte1 r) 1 then otherWiring (b .icu) 128 (byte2 r)
+    else if eqb (byte1 r) 49 then otherWiring (b .slave) 7 (byte2 r)
     else if eqb (byte1 r) 19 then unbuiltControl (byte2 r)
     else if eqb (byte1 r) 32 then bitOf (byte2 r) 1
     else if eqb (byte1 r) 40 then unbuiltDeviceControl (byte2 r)
@@ -156,7 +184,7 @@ due b r =
     if formed r then
     (if held b r then 1
     else if outOfTurn b r then 3
-    else if notBuilt r then 4
+    else if notBuilt b r then 4
     else if countsOne b r then 6
     else 0)
     else 2

@@ -21,7 +21,7 @@ use Rattle.board.specs.Step.{stepOf}
 use Rattle.board.specs.Records.{recordAt, after}
 use Rattle.promises.specs.Records.{writing, reading, setting, advancing, pulsing}
 use Rattle.promises.specs.Table.{among, unbuiltControl}
-use Rattle.promises.specs.Words.{answersIn, unitsOf, auto, Highest, requested, inService}
+use Rattle.promises.specs.Words.{answersIn, unitsOf, auto, Highest, lineHigh, requested, inService}
 use Rattle.promises.specs.TaughtWords.{writingOf, firstByte, readingOf, valueOf, Completes, tooSmall, loadsAs, transfersNext, reloadsNext, Clocks, modeWordFor, modeNamed, formatIn, countMade, loading, writesIn, holds, Unread, readAt, later, Reads, plainCycle, goesOn, Alone}
 use Rattle.promises.specs.Reached.{Reached}
 
@@ -55,7 +55,7 @@ pub record Taught : Type 0 where
   -- Not so: a board on which a masked line makes no request; one that shows it only once it is unmasked.
   pub masked-rise-shows : {b : Board} → Reached b → (m : List ℕ) → b .dma .serving ≡ false → ready (b .icu) ≡ true → b .icu .showsisr ≡ false
       → (l k : ℕ) → l < 256 → l % 2 ≡ 0 → 1 ≤ k → k < 8
-      → bitOf (b .intp) k ≡ false
+      → lineHigh b k ≡ false
       → bitOf l k ≡ true
       → bitOf (getD (stepOf (stepOf b (setting 0 l) m .board) (reading 0) m .answer) 2 0) k ≡ true
   -- "The count is loaded at the write." No write, of a count byte or a control word, changes the value of any counter.

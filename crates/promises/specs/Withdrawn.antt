@@ -1,7 +1,7 @@
--- A request that went away. In edge trigger a level is requested exactly if its line is high, rose while the chip was ready, since the last IW1 or
+-- A request of the master that went away. In edge trigger a level is requested exactly if its line is high, rose while the chip was ready, since the last IW1 or
 -- reset, and was not acknowledged since: a line has to be held.
 --
--- Words.antt has the words lineHigh (the line of level k: OUT0 for level 0, INTP1 to INTP7 for the others) and requested (in edge trigger, a bit of the chip's register;
+-- Words.antt has the words lineHigh (the line of level k: OUT0 for level 0, INTP1 to INTP6, and for level 7 INTP7 or the slave's INT) and requested (in edge trigger, a bit of the chip's register;
 -- a read of IRR shows it, Taught.antt, masking-hides-nothing).
 use mathlib.Core.Path.{_≡_}
 use mathlib.Core.Logic.{_↔_, _⊎_}

@@ -15,6 +15,7 @@ use Rattle.dma.specs.declared.Channel.{Channel}
 use Rattle.dma.specs.declared.Dma.{Dma}
 use Rattle.dma.specs.Fields.{chan}
 use Rattle.board.specs.declared.Board.{Board}
+use Rattle.board.specs.Wiring.{joined}
 use Rattle.board.specs.Step.{stepOf}
 use Rattle.board.specs.Records.{recordAt, after}
 use Rattle.intake.specs.Feed.{bytesOf, fedOf, fedMemory, fedAnswers}
@@ -120,9 +121,9 @@ pub record Highest (levels : ℕ → Bool) (l n : ℕ) : Type 0 where
   pub chosen : levels n ≡ true
   pub over : (k : ℕ) → k < 8 → levels k ≡ true → k ≢ n → before l n < before l k
 
--- The line of level k: OUT0 for level 0, INTP1 to INTP7 for the others.
+-- The line of level k: OUT0 for level 0, for the others INTP1 to INTP7 as the master has them, with the slave's INT on line 7 (Cascade.antt, line-7).
 abbrev pub lineHigh : Board → ℕ → Bool
-lineHigh b k = if eqb k 0 then at (b .timer) 0 .out else bitOf (b .intp) k
+lineHigh b k = if eqb k 0 then at (b .timer) 0 .out else bitOf (joined b) k
 
 -- The levels requested: in level trigger (IW1 with D3=1) those whose line is high, in edge trigger those with an edge request. The levels asked
 -- for: requested and unmasked. The levels in service.

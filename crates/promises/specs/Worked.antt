@@ -1,22 +1,23 @@
--- Boards and tapes of which demand 3 and the statements on lumps, loading, triggers, waves, half reads, latches, units and withdrawn requests speak, each from reset by a short
+-- Boards and tapes of which demand 3 and the statements on lumps, loading, triggers, waves, half reads, latches, units, withdrawn requests and the slave speak, each from reset by a short
 -- tape: so these are not about nothing. (For the other statements on interrupts, see the tapes of Examples.antt.)
 use mathlib.Core.Path.{_≡_}
 use mathlib.Core.List.{List, [], _∷_, _++_}
 use mathlib.Core.Bool.{true, false}
 use Prim.Native.Nat.{ℕ, _+_, _*_, _<_}
-use lib.ListN.{take, drop, length, replicate}
+use lib.ListN.{getD, take, drop, length, replicate}
 use Rattle.timer.specs.Timer.{at}
 use Rattle.board.specs.declared.Board.{Board}
 use Rattle.board.specs.Wiring.{freshOf}
 use Rattle.board.specs.Step.{stepOf}
 use Rattle.board.specs.Records.{after}
 use Rattle.intake.specs.Feed.{fedOf, fedMemory, fedAnswers}
-use Rattle.promises.specs.Records.{writing, setting, acknowledging, advancing, pulsing, cycling, joined}
+use Rattle.promises.specs.Records.{writing, reading, setting, acknowledging, advancing, pulsing, cycling, joined}
 use Rattle.promises.specs.Words.{answersIn, unitsOf, dataIn, Calm, CalmFrom, Further, requested}
 use Rattle.promises.specs.Reached.{Reached}
 use Rattle.promises.specs.TaughtWords.{loading, readAt, later}
 use Rattle.promises.specs.Waves.{Loaded}
 use Rattle.promises.specs.Modes.{risesIn}
+use Rattle.promises.specs.Cascade.{slaveInt}
 use Rattle.promises.specs.Chopped.{Lump, called, lumpByLump, Room, Each, advancedOn}
 
 -- Demand 3, a further tape that disturbs nothing and moves three units. Channel 0 in block mode, device to memory, count 2 from address 5, unmasked; its
@@ -106,6 +107,45 @@ masking =
 unfoldable pub outranked : List ℕ
 outranked = joined (writing 0 19 ∷ writing 1 64 ∷ writing 1 1 ∷ setting 0 4 ∷ acknowledging ∷ setting 0 12 ∷ acknowledging ∷ [])
 
+-- Two chips. Both in edge trigger, extended, in vector mode: the master with IW2 40H, the slave with 38H. Line 2 of the slave rises; or INTP7 does, and the slave has nothing to offer.
+unfoldable pub bothSet : List (List ℕ)
+bothSet =
+    writing 0 17
+    ∷ writing 1 64
+    ∷ writing 1 128
+    ∷ writing 1 1
+    ∷ writing 48 17
+    ∷ writing 49 56
+    ∷ writing 49 7
+    ∷ writing 49 1
+    ∷ []
+
+unfoldable pub cascading : Board
+cascading = fedOf freshOf (joined (bothSet ++ setting 3 4 ∷ [])) [] 144 .board
+
+unfoldable pub idling : Board
+idling = fedOf freshOf (joined (bothSet ++ setting 0 128 ∷ [])) [] 144 .board
+
+-- Line 7 masked in the master, and line 2 of the slave rises: the slave's INT is high, the master's low.
+unfoldable pub deaf : Board
+deaf = after freshOf [] (joined (bothSet ++ writing 1 128 ∷ setting 3 4 ∷ [])) 10 .board
+
+-- Both in CALL mode, with no IW4. IW3 is wrong at first, in either chip; the slave's gap is 4 (B4H), and its line 3 rises.
+unfoldable pub calling : List ℕ
+calling =
+    joined
+    (writing 0 16
+    ∷ writing 1 52
+    ∷ writing 1 7
+    ∷ writing 1 128
+    ∷ writing 48 180
+    ∷ writing 49 18
+    ∷ writing 49 128
+    ∷ writing 49 7
+    ∷ setting 3 8
+    ∷ acknowledging
+    ∷ [])
+
 -- Lumps. The tapes of demand 3 above, and three bytes of one record more, on a fresh board: 83 bytes that come as 51, none, 20 and 12. Two of the three units come in records that are cut.
 unfoldable pub chopped : List ℕ
 chopped = setup ++ further ++ 6 ∷ 0 ∷ 5 ∷ []
@@ -133,6 +173,10 @@ sevenAndFive =
 -- An advance in two. Counter 0 in mode 2 with count 3: OUT0 rises with pulses 4, 7 and 10.
 unfoldable pub rising : Board
 rising = after freshOf [] (joined (writing 19 20 ∷ writing 16 3 ∷ [])) 2 .board
+
+-- The answer of a write, with all levels low.
+abbrev wrote : ℕ → List ℕ
+wrote status = status ∷ 1 ∷ replicate 14 0
 
 pub record Worked : Type 0 where
   pub reached : Reached board
@@ -197,3 +241,21 @@ pub record Worked : Type 0 where
   pub still-masked : (requested (after freshOf [] masking 8 .board) 3 ≡ true) × (after freshOf [] masking 8 .board .icu .lowest ≡ 2)
   pub outranked-7 : dataIn (stepOf (after freshOf [] outranked 6 .board) acknowledging [] .answer) ≡ 71
   pub still-served : after freshOf [] outranked 7 .board .icu .isr ≡ 4
+  -- The slave's level 2 is answered 3AH (58), and ISR has bit 7 of the master and bit 2 of the slave. The slave's finish (20H at 30H) clears its own bit alone.
+  pub cascading-reached : Reached cascading
+  pub offered : dataIn (stepOf cascading acknowledging [] .answer) ≡ 58
+  pub both-served : (stepOf cascading acknowledging [] .board .icu .isr ≡ 128) × (stepOf cascading acknowledging [] .board .slave .isr ≡ 4)
+  pub slave-finished : (stepOf (stepOf cascading acknowledging [] .board) (writing 48 32) [] .board .slave .isr ≡ 0)
+      × (stepOf (stepOf cascading acknowledging [] .board) (writing 48 32) [] .board .icu .isr ≡ 128)
+  -- With nothing to offer it answers 3FH (63) and stays.
+  pub idling-reached : Reached idling
+  pub idle-7 : dataIn (stepOf idling acknowledging [] .answer) ≡ 63
+  pub idle-stays : stepOf idling acknowledging [] .board .slave ≡ idling .slave
+  -- The INT of an answer is the master's: low, while the slave's is high. The master answers 47H (71), and the slave stays.
+  pub master-int : (getD (stepOf deaf (reading 48) [] .answer) 3 0 ≡ 0) × (slaveInt deaf ≡ true)
+  pub deaf-7 : (dataIn (stepOf deaf acknowledging [] .answer) ≡ 71) × (stepOf deaf acknowledging [] .board .slave ≡ deaf .slave)
+  -- In CALL mode the slave gives its own address, CDH ACH 12H (205, 172, 18); the wrong words were refused with 4.
+  pub slave-call : answersIn (after freshOf [] calling 10 .answers) 10
+      ≡ wrote 0 ∷ wrote 0 ∷ wrote 4 ∷ wrote 0 ∷ wrote 0 ∷ wrote 0 ∷ wrote 4 ∷ wrote 0 ∷ (0 ∷ 3 ∷ 0 ∷ 8 ∷ replicate 12 0) ∷ (0 ∷ 4 ∷ 0 ∷ 0 ∷ 205 ∷ 172 ∷ 18 ∷ replicate 9 0) ∷ []
+  -- After the master's four words alone, with the slave not ready, an acknowledge is 3.
+  pub unready-3 : getD (stepOf (after freshOf [] (joined bothSet) 4 .board) acknowledging [] .answer) 0 0 ≡ 3
