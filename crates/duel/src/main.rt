@@ -8,7 +8,7 @@ mod spoilt;
 
 use rival::counts;
 
-const ROUNDS: u32 = 80;
+const ROUNDS: u32 = 120;
 
 fn tell_usage() -> u8 {
     io::write_all(

@@ -9,6 +9,8 @@ use rival::modes::Modes;
 use rival::requests;
 use rival::requests::Requests;
 use rival::show;
+use rival::slave;
+use rival::slave::Slave;
 use rival::stretch;
 use rival::stretch::Answers;
 use rival::stretch::Memory;
@@ -49,6 +51,7 @@ pub struct Counted {
     pub tally: Tally,
     modes: Modes,
     requests: Requests,
+    slave: Slave,
 }
 
 fn fill(memory: &mut Memory, seed: u32) {
@@ -181,7 +184,7 @@ fn start(round: u32, counted: Counted) -> Round {
     Round {
         maker: tapes::start(round % 65536 + 1, length_of(round)),
         run: first::from_reset(round % 65536 + 1, counted.tally),
-        ran: stretch::from_reset(counted.modes, counted.requests),
+        ran: stretch::from_reset(counted.modes, counted.requests, counted.slave),
     }
 }
 
@@ -201,10 +204,12 @@ fn run_round(round: u32, counted: Counted) -> Counted {
     let tally = run.tally;
     let modes = ran.modes;
     let requests = ran.requests;
+    let slave = ran.slave;
     Counted {
         tally: tally,
         modes: modes,
         requests: requests,
+        slave: slave,
     }
 }
 
@@ -213,6 +218,7 @@ fn none_yet() -> Counted {
         tally: counts::zero(),
         modes: modes::zero(),
         requests: requests::zero(),
+        slave: slave::zero(),
     }
 }
 
@@ -232,5 +238,6 @@ pub fn print_all(n: u32, counted: Counted) -> bool {
     show::print_with(b"rounds: %\n", n as u64, 0, 0, 0)
         & counts::print_all(counted.tally)
         & requests::print_all(counted.requests)
+        & slave::print_all(counted.slave)
         & modes::print_all(counted.modes)
 }

@@ -10,6 +10,7 @@ use rival::notation;
 use rival::notation::Line;
 use rival::requests;
 use rival::show;
+use rival::slave;
 use rival::stretch;
 use rival::stretch::Answers;
 use rival::stretch::Memory;
@@ -163,7 +164,7 @@ fn both_agree(tape: &Tape, typed: &Answers, n: usize, number: u32) -> bool {
     let mut first_answers = [stretch::UNWRITTEN; 1088];
     let mut second_answers = [stretch::UNWRITTEN; 1088];
     stretch::run_second(
-        stretch::from_reset(modes::zero(), requests::zero()),
+        stretch::from_reset(modes::zero(), requests::zero(), slave::zero()),
         tape,
         n,
         &mut second_memory,

@@ -102,7 +102,9 @@ fn same_kept(a: Kept, b: Kept) -> bool {
 
 pub fn same_board(a: Board, b: Board) -> bool {
     (a.intp == b.intp)
+        & (a.slaveintp == b.slaveintp)
         & same_icu(a.icu, b.icu)
+        & same_icu(a.slave, b.slave)
         & same_timer(a.timer, b.timer)
         & same_dma(a.dma, b.dma)
         & same_kept(a.kept, b.kept)

@@ -10,7 +10,7 @@ fn spoil_icu(c: Icu, draw: u32) -> Icu {
     let mut next = c;
     match draw % 4 {
         0 => {
-            next.stage = 4;
+            next.stage = 5;
             return next;
         }
         1 => {
@@ -18,7 +18,7 @@ fn spoil_icu(c: Icu, draw: u32) -> Icu {
             return next;
         }
         2 => {
-            next.iw1 = 0x10;
+            next.iw1 = 0xEF;
             return next;
         }
         _ => {
@@ -133,8 +133,12 @@ pub fn spoil(b: Board, draw: u32) -> Board {
         next.kept = kept;
         return next;
     }
-    if part < 4 {
+    if part == 2 {
         next.icu = spoil_icu(b.icu, draw / 8);
+        return next;
+    }
+    if part == 3 {
+        next.slave = spoil_icu(b.slave, draw / 8);
         return next;
     }
     if part < 6 {

@@ -4,5 +4,6 @@ pub mod modes;
 pub mod notation;
 pub mod requests;
 pub mod show;
+pub mod slave;
 pub mod stretch;
 pub mod tapes;

@@ -4,6 +4,8 @@ use crate::modes;
 use crate::modes::Modes;
 use crate::requests;
 use crate::requests::Requests;
+use crate::slave;
+use crate::slave::Slave;
 use second::State;
 
 pub type Tape = [u8; 512];
@@ -130,20 +132,22 @@ pub fn copy_memory(from: &Memory, to: &mut Memory) {
     }
 }
 
-// The second board under way, and what became of its counters and requests.
+// The second board under way, and what became of its counters, its requests and its slave.
 pub struct Ran {
     pub s: State,
     pub modes: Modes,
     pub requests: Requests,
+    pub slave: Slave,
 }
 
 // The second board from reset, with the counts so far.
-pub fn from_reset(modes: Modes, requests: Requests) -> Ran {
+pub fn from_reset(modes: Modes, requests: Requests, slave: Slave) -> Ran {
     let s = second::second_reset();
     Ran {
         s: s,
         modes: modes,
         requests: requests,
+        slave: slave,
     }
 }
 
@@ -165,6 +169,7 @@ fn run_one(
         s: next,
         modes: modes::count_record(ran.modes, s, next, low, high, answer),
         requests: requests::count_record(ran.requests, s, next, low, answer),
+        slave: slave::count_record(ran.slave, s, next, low, answer),
     }
 }
 

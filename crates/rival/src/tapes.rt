@@ -2,14 +2,15 @@
 //
 // The maker mostly makes single records, drawn by weights. Now and then it starts a script, which sets a chip up record by record, with single
 // records strewn in: the initializing words of the interrupt chip, a counter's mode and count, a counter that is then run (pulses, its gate, counts
-// written again, reads), a channel with its requests and cycles (some of these after a reset of the DMA chip by register 0), or a latch and reads of
-// a counter. In the end one record in thirty-two has a byte changed, whatever that makes of it.
+// written again, reads), a channel with its requests and cycles (some of these after a reset of the DMA chip by register 0), a latch and reads of
+// a counter, or both interrupt chips with what may happen to the two. In the end one record in thirty-two has a byte changed, whatever that makes of it.
 //
 // Addresses lie near 0, near the memory's end and near FFFFFFH.
 
 pub struct Maker {
     pub seed: u32,
-    // 0 none, 1 interrupt chip, 2 counter, 3 channel, 4 reads of a counter, 5 a reset of the DMA chip and then 3, 6 a counter that is run.
+    // 0 none, 1 interrupt chip, 2 counter, 3 channel, 4 reads of a counter, 5 a reset of the DMA chip and then 3, 6 a counter that is run, 7 both
+    // interrupt chips.
     pub script: u32,
     pub step: u32,
     // What the script drew when it began.
@@ -107,11 +108,14 @@ const COMMANDS: [u32; 16] = [
     0x68,
 ];
 
-fn command(y: u32) -> [u8; 8] {
+fn command(port: u32, y: u32) -> [u8; 8] {
     let row = second::index(y) % 16;
     let word = COMMANDS[row];
     let also = seldom(y / 256, 11, 4) | seldom(y / 4096, 3, 0x80) | seldom(y / 16384, 3, 0x20);
-    write_of(0, word | second::choose(word % 16 == 0, y / 256 % 8, also))
+    write_of(
+        port,
+        word | second::choose(word % 16 == 0, y / 256 % 8, also),
+    )
 }
 
 fn mask(y: u32) -> [u8; 8] {
@@ -136,7 +140,7 @@ fn single(x: u32, y: u32) -> [u8; 8] {
         26..=28 => record_of(3, 1, (y | y >> 8) % 8 | stray(y, 8)),
         29..=31 => record_of(3, 2, y % 16 & y >> 8 | stray(y, 16)),
         32..=39 => record_of(4, 0, 0),
-        40..=45 => command(y),
+        40..=45 => command(0, y),
         46..=47 => read_of(y % 2),
         48 => mask(y),
         49..=52 => read_of(0x10 + y % 3),
@@ -326,6 +330,238 @@ fn read_step(step: u32, choice: u32, y: u32) -> [u8; 8] {
     read_of(0x10 + choice % 3)
 }
 
+// The script of both interrupt chips: the bus is freed; the master is set up, and then the slave; then come 24 to 54 records of what may happen to the
+// two. In the end the slave is left single or not ready, and the master single, for the records that come after.
+
+// What the two are set up as, sixteen times the master and the slave: 0 not ready, 1 single, 2 extended; 100H where one is to be in vector mode and the
+// other in CALL mode.
+fn setup(choice: u32) -> u32 {
+    let k = choice % 32;
+    match k {
+        0..=21 => 0x22,
+        22..=24 => 0x122,
+        25..=26 => 0x11,
+        27 => 0x21,
+        28 => 0x12,
+        29 => 0x20,
+        30 => 0x10,
+        _ => 0x02,
+    }
+}
+
+// A chip is 0, the master, or 1, the slave.
+fn kind(choice: u32, chip: u32) -> u32 {
+    second::choose(chip == 0, setup(choice) / 16, setup(choice)) % 16
+}
+
+// The bits of the draw that are the chip's own.
+fn own(choice: u32, chip: u32) -> u32 {
+    second::choose(chip == 0, choice / 256, choice / 65536) % 256
+}
+
+fn is_vector(choice: u32, chip: u32) -> bool {
+    second::choose(chip == 0, choice / 32, choice / 32 ^ setup(choice) / 256) % 2 == 1
+}
+
+fn announces(choice: u32, chip: u32) -> bool {
+    is_vector(choice, chip) | (own(choice, chip) / 16 % 4 > 0)
+}
+
+// IW1: three in eight are level-triggered.
+fn joined_word(choice: u32, chip: u32, y: u32) -> u32 {
+    let level = second::choose(own(choice, chip) % 8 < 3, 8, 0);
+    let single = second::choose(kind(choice, chip) == 1, 2, 0);
+    let fourth = second::choose(announces(choice, chip), 1, 0);
+    y & 0xE4 | 0x10 | level | single | fourth
+}
+
+fn third_word(chip: u32) -> u32 {
+    second::choose(chip == 0, 0x80, 0x07)
+}
+
+// An IW3 that is wrong: mostly the other chip's, or the right one with a bit turned over.
+fn wrong_word(chip: u32, y: u32) -> u32 {
+    let k = y / 64 % 4;
+    match k {
+        0 => third_word(1 - chip % 2),
+        1 => y / 256,
+        _ => third_word(chip) ^ 1 << (y % 8),
+    }
+}
+
+// All low, all high, or some; seldom of a group that is none.
+fn slave_lines(y: u32) -> [u8; 8] {
+    let k = y % 4;
+    match k {
+        0 => record_of(3, 3, 0),
+        1 => record_of(3, 3, 255),
+        _ => record_of(
+            3,
+            second::choose(y / 4 % 32 == 0, 4, 3),
+            y / 256 & y / 65536,
+        ),
+    }
+}
+
+fn slave_mask(y: u32) -> [u8; 8] {
+    let k = y % 4;
+    match k {
+        0 => write_of(0x31, 255),
+        1 => write_of(0x31, y / 256 | y / 65536),
+        _ => write_of(0x31, y / 256 & y / 65536),
+    }
+}
+
+fn either(b: bool, one: [u8; 8], other: [u8; 8]) -> [u8; 8] {
+    if b {
+        return one;
+    }
+    other
+}
+
+// A chip that is to be left not ready gets wrong words alone for IW3.
+fn gets_wrong_word(choice: u32, chip: u32) -> bool {
+    let kind = kind(choice, chip);
+    (kind == 0) | ((kind == 2) & (own(choice, chip) / 64 == 0))
+}
+
+// The last word of a chip that is to be ready: IW4, or a mask.
+fn last_word(choice: u32, chip: u32, y: u32) -> u32 {
+    let sfi = second::choose(own(choice, chip) / 8 % 2 == 1, 2, 0);
+    let vector = second::choose(is_vector(choice, chip), 1, 0);
+    second::choose(
+        announces(choice, chip),
+        y & 0xFC | sfi | vector,
+        y & y >> 8 & y >> 16,
+    )
+}
+
+// A chip's seven steps: now and then an IW1 and a word that come to nothing, IW1, IW2, now and then a wrong IW3, IW3, and the last word. Where one is left out the
+// slave's lines come instead.
+fn joined_step(step: u32, choice: u32, chip: u32, y: u32) -> [u8; 8] {
+    let port = chip % 2 * 0x30;
+    let kind = kind(choice, chip);
+    let again = choice / 64 % 4 == 0;
+    let wrong = write_of(port + 1, wrong_word(chip, y));
+    let lines = slave_lines(y);
+    match step {
+        0 => either(again, write_of(port, y | 0x10), lines),
+        1 => either(again, write_of(port + 1, y / 256), lines),
+        2 => write_of(port, joined_word(choice, chip, y)),
+        3 => write_of(port + 1, y),
+        4 => either(gets_wrong_word(choice, chip), wrong, lines),
+        5 => either(kind == 2, write_of(port + 1, third_word(chip)), lines),
+        _ => either(
+            kind == 0,
+            wrong,
+            write_of(port + 1, last_word(choice, chip, y)),
+        ),
+    }
+}
+
+// The master's order: rotation in self-FI, or a level made lowest, often level 6, so that 7 ranks first.
+fn rotation(y: u32) -> [u8; 8] {
+    let k = y % 4;
+    match k {
+        0..=1 => write_of(0, 0x80),
+        2 => write_of(0, 0xC6),
+        _ => write_of(0, 0xC0 + y / 256 % 8),
+    }
+}
+
+// A finish of the master: what it has in service blocks the slave.
+fn master_finish(y: u32) -> [u8; 8] {
+    write_of(0, second::choose(y % 4 == 0, 0x67, 0x20))
+}
+
+// The slave made idle, mostly: all masked, or its lines low.
+fn idling(y: u32) -> [u8; 8] {
+    let k = y % 4;
+    match k {
+        0..=1 => write_of(0x31, 255),
+        2 => record_of(3, 3, 0),
+        _ => read_of(0x30),
+    }
+}
+
+// INTP7 and, now and then, others of the master's lines.
+fn master_lines(seventh: u32, y: u32) -> [u8; 8] {
+    record_of(3, 0, seventh | y & y >> 8 & y >> 16 & 0x7E)
+}
+
+// A round of the two: the slave asks, is acknowledged and finished; it is made idle, and INTP7 asks in its place; then it asks again, by all its lines.
+fn in_turn(turn: u32, y: u32) -> [u8; 8] {
+    let every = record_of(3, 3, 255);
+    let acknowledge = record_of(4, 0, 0);
+    match turn {
+        0 => either(y % 2 == 0, every, record_of(3, 3, y / 256 | y / 65536)),
+        2 => either(y / 16 % 2 == 0, write_of(0, 0x20), acknowledge),
+        3 => either(y / 16 % 2 == 0, command(0x30, y), every),
+        5 => master_finish(y),
+        6 => idling(y),
+        7 => master_lines(0x80, y),
+        9 => master_lines(0, y),
+        10 => either(y / 16 % 4 == 0, read_of(0x30), master_finish(y)),
+        11 => write_of(0x31, y & y >> 8 & y >> 16),
+        12 => every,
+        14 => master_finish(y),
+        _ => acknowledge,
+    }
+}
+
+fn joined_happening(turn: u32, y: u32) -> [u8; 8] {
+    let k = y % 32;
+    let z = y / 32;
+    match k {
+        0..=18 => in_turn(turn, z),
+        19 => slave_lines(z),
+        20..=22 => record_of(4, 0, 0),
+        23 => command(0x30, z),
+        24 => command(0, z),
+        25 => slave_mask(z),
+        26 => read_of(0x30 + z % 2),
+        27 => record_of(3, 0, z & 0xFE),
+        28 => write_of(0x30, 0x20),
+        29 => write_of(0, 0x20),
+        30 => write_of(z % 2 * 0x30, 0x0A + z / 2 % 2),
+        _ => write_of(0x30, second::choose(z % 4 == 0, z / 16 | 0x10, 0x20)),
+    }
+}
+
+// The last five: IW1 and a word for the slave, and the initializing words of a single master.
+fn closing(step: u32, choice: u32, y: u32) -> [u8; 8] {
+    match step {
+        0 => write_of(
+            0x30,
+            second::choose(choice / 268435456 % 4 == 0, 0x12, 0x10) | y & 0xEC,
+        ),
+        1 => write_of(0x31, y),
+        2 => write_of(0, first_word(y)),
+        _ => write_of(1, y),
+    }
+}
+
+fn happenings(choice: u32) -> u32 {
+    choice / 16777216 % 16 * 2 + 24
+}
+
+fn both_step(step: u32, choice: u32, y: u32) -> [u8; 8] {
+    let last = happenings(choice) % 64 + 19;
+    if step >= last {
+        return closing(step - last, choice, y);
+    }
+    match step {
+        0 => record_of(3, 2, 0),
+        1 => record_of(6, 1, y),
+        2..=8 => joined_step(step - 2, choice, 0, y),
+        9..=15 => joined_step(step - 9, choice, 1, y),
+        16 => rotation(y),
+        17 => write_of(0x30, second::choose(y % 8 > 0, 0x80, 0xC0 + y / 256 % 8)),
+        18 => write_of(1, second::choose(y % 2 == 0, 0x7F, y & y >> 8 & y >> 16)),
+        _ => joined_happening((step % 256 + 13) % 16, y),
+    }
+}
+
 fn steps_of(script: u32, choice: u32) -> u32 {
     match script {
         1 => 4,
@@ -333,6 +569,7 @@ fn steps_of(script: u32, choice: u32) -> u32 {
         4 => 6,
         5 => 5,
         6 => choice / 4096 % 16 + 6,
+        7 => happenings(choice) % 64 + 24,
         _ => choice / 4096 % 10 + 12,
     }
 }
@@ -344,6 +581,7 @@ fn script_step(script: u32, step: u32, choice: u32, memory: u32, y: u32) -> [u8;
         4 => read_step(step, choice, y),
         5 => reset_step(step, choice, y),
         6 => run_step(step, choice, y),
+        7 => both_step(step, choice, y),
         _ => channel_step(step, choice, memory, y),
     }
 }
@@ -364,10 +602,11 @@ fn begun(x: u32) -> u32 {
     let k = x / 64 % 64;
     match k {
         0..=1 => 1,
-        2..=7 => 2,
+        2..=7 | 17 => 2,
         8..=10 => second::choose(x / 16777216 % 5 == 0, 5, 3),
         11..=12 => 4,
         13..=15 => 6,
+        16 => 7,
         _ => 0,
     }
 }

@@ -1,17 +1,20 @@
-// The board of document 01, with the timer's six modes and with edge requests that a fall withdraws, a second time: written from the documents alone and
-// held against the first by running both on the same tapes.
+// The board of document 01, with the timer's six modes, with edge requests that a fall withdraws and with a slave chip on line 7, a second time: written
+// from the documents alone and held against the first by running both on the same tapes.
 //
-// The whole board is one array of 96 numbers, which functions take and give back by value. What a record may be is read off tables, every refusal
+// The whole board is one array of 112 numbers, which functions take and give back by value. What a record may be is read off tables, every refusal
 // is decided before anything changes, and an advance is worked out by division, with no loop over its pulses.
 ghost use Prim.Native.Nat.{_<_};
 
-pub type State = [u32; 96];
+pub type State = [u32; 112];
 
-// The interrupt chip: places 0 to 10.
+// The interrupt chips: the master has the sixteen places from 0 on, the slave those from 96 on. Of them eleven are used.
+const MASTER: usize = 0;
 
-// 0 before the first IW1, 1 when IW2 is awaited, 2 when IW4 is awaited, 3 when ready.
+const SLAVE: usize = 96;
+
+// 0 before the first IW1, 1 when IW2 is awaited, 2 when IW4 is awaited, 3 when ready, 4 when IW3 is awaited.
 const STAGE: usize = 0;
-// IW1, IW2 and IW4 as they were written.
+// IW1, IW2 and IW4 as they were written. (IW3 has one value for each chip.)
 const IW1: usize = 1;
 
 const IW2: usize = 2;
@@ -29,7 +32,7 @@ const ISR: usize = 7;
 const EDGES: usize = 8;
 // 0 when IRR is read at A0=0, 1 when ISR is.
 const SHOWN: usize = 9;
-// The lines INTP1 to INTP7, in bits 1 to 7. Line 0 is OUT0.
+// The lines of the chip's own group. The master has INTP1 to INTP7, in bits 1 to 7: its line 0 is OUT0, and the slave's INT is joined to line 7.
 const INTP: usize = 10;
 
 // The timer: counter c has the sixteen places from 16 + 16c on.
@@ -105,7 +108,7 @@ const WRITABLE: [u32; 16] = [
     0x0003,
     0x000F,
     0xF77F,
-    0,
+    0x0003,
     0,
     0,
     0,
@@ -124,7 +127,7 @@ const READABLE: [u32; 16] = [
     0x0003,
     0x0007,
     0xFF7E,
-    0,
+    0x0003,
     0,
     0,
     0,
@@ -139,7 +142,7 @@ const READABLE: [u32; 16] = [
     0,
 ];
 // For each group of lines: the bits that it has.
-const GROUP: [u32; 4] = [0xFE, 0x07, 0x0F, 0x00];
+const GROUP: [u32; 4] = [0xFE, 0x07, 0x0F, 0xFF];
 // For D3-D1 of a mode word: the mode plus 1.
 const MODES: [u32; 8] = [1, 2, 3, 4, 5, 6, 3, 4];
 // Sets of modes: bit m + 1 is set where mode m belongs to the set.
@@ -230,16 +233,21 @@ fn word(a: u32, b: u32, c: u32, d: u32) -> u32 {
 }
 
 fn get(s: State, at: usize) -> u32 {
-    let i = at % 96;
+    let i = at % 112;
     s[i]
 }
 
 // The board with x at a place.
 fn set(s: State, at: usize, x: u32) -> State {
     let mut next = s;
-    let i = at % 96;
+    let i = at % 112;
     next[i] = x;
     next
+}
+
+// Where field f of an interrupt chip stands.
+fn of_icu(at: usize, f: usize) -> usize {
+    at % 112 + f % 16
 }
 
 // Where field f of counter c stands.
@@ -250,6 +258,14 @@ fn of_counter(c: u32, f: usize) -> usize {
 // Where field f of a channel stands.
 fn of_channel(channel: u32, f: usize) -> usize {
     index(channel % 4) % 4 * 5 + 72 + f % 5
+}
+
+fn icu(s: State, at: usize, f: usize) -> u32 {
+    get(s, of_icu(at, f))
+}
+
+fn set_icu(s: State, at: usize, f: usize, x: u32) -> State {
+    set(s, of_icu(at, f), x)
 }
 
 fn timer(s: State, c: u32, f: usize) -> u32 {
@@ -304,8 +320,9 @@ fn with_words(s: State, data: u32, first: u32, second: u32) -> Effect {
 
 // Reset. Only what is not zero needs saying: level 7 lowest, gates high, channels masked.
 pub fn second_reset() -> State {
-    let zero = [0u32; 96];
-    let s = set(set(zero, LOWEST, 7), MASKS, 15);
+    let zero = [0u32; 112];
+    let ranked = set_icu(set_icu(zero, MASTER, LOWEST, 7), SLAVE, LOWEST, 7);
+    let s = set(ranked, MASKS, 15);
     set_timer(set_timer(set_timer(s, 0, GATE, 1), 1, GATE, 1), 2, GATE, 1)
 }
 
@@ -323,7 +340,7 @@ fn open_to_read(port: u32) -> bool {
 
 fn known_lines(group: u32, levels: u32) -> bool {
     let row = index(group) % 4;
-    (group < 3) & (levels & !GROUP[row] == 0)
+    (group < 4) & (levels & !GROUP[row] == 0)
 }
 
 // Ports, lines and END, where the record has them.
@@ -344,16 +361,15 @@ fn well_made(low: u32, high: u32, op: u32, x: u32, y: u32) -> bool {
     (unused == 0) & operands_known(op, x, y)
 }
 
-// The interrupt chip.
-
-// The eight lines: OUT0, and INTP1 to INTP7.
-fn lines(s: State) -> u32 {
-    get(s, INTP) & 0xFE | timer(s, 0, OUT) % 2
-}
+// An interrupt chip. `at` is the chip; where a rule asks for its lines, they are given.
 
 // In level trigger (D3 of IW1) the lines are the requests.
-fn irr(s: State) -> u32 {
-    choose(has(get(s, IW1), 3), lines(s), get(s, EDGES) % 256)
+fn irr(s: State, at: usize, lines: u32) -> u32 {
+    choose(
+        has(icu(s, at, IW1), 3),
+        lines % 256,
+        icu(s, at, EDGES) % 256,
+    )
 }
 
 // The rank of the best level of a set, 0 for the first, 8 where the set is empty. The set is turned so that the first rank is bit 0; every bit
@@ -371,66 +387,130 @@ fn level_at(rank: u32, lowest: u32) -> u32 {
     (rank % 8 + lowest % 8 + 1) % 8
 }
 
-fn request_rank(s: State) -> u32 {
-    best_rank(irr(s) & !get(s, IMR), get(s, LOWEST))
+fn request_rank(s: State, at: usize, lines: u32) -> u32 {
+    best_rank(irr(s, at, lines) & !icu(s, at, IMR), icu(s, at, LOWEST))
 }
 
-fn ready(s: State) -> bool {
-    get(s, STAGE) == 3
+fn ready(s: State, at: usize) -> bool {
+    icu(s, at, STAGE) == 3
 }
 
-fn int(s: State) -> bool {
-    ready(s) & (request_rank(s) < best_rank(get(s, ISR), get(s, LOWEST)))
+fn int(s: State, at: usize, lines: u32) -> bool {
+    let serving = best_rank(icu(s, at, ISR), icu(s, at, LOWEST));
+    ready(s, at) & (request_rank(s, at, lines) < serving)
 }
 
-// Whether the chip looks for edges: it is ready, and not level-triggered.
-fn sees_edges(s: State) -> bool {
-    ready(s) & !has(get(s, IW1), 3)
+// The two chips' lines.
+
+fn slave_lines(s: State) -> u32 {
+    icu(s, SLAVE, INTP) % 256
 }
 
-// Takes in what the lines did during a record: a rise asks, a fall withdraws. `also` has bit 0 set where OUT0 rose on the way. The last change counts: a
-// line that is low now has fallen since it asked, if it ever did.
-fn take_edges(s: State, before: u32, also: u32) -> State {
-    let now = lines(s);
+fn slave_int(s: State) -> bool {
+    int(s, SLAVE, slave_lines(s))
+}
+
+// OUT0, INTP1 to INTP6, and INTP7 or the slave's INT.
+fn master_lines(s: State) -> u32 {
+    icu(s, MASTER, INTP) & 0xFE | timer(s, 0, OUT) % 2 | number(slave_int(s)) * 128
+}
+
+fn lines(s: State, at: usize) -> u32 {
+    if at == SLAVE {
+        return slave_lines(s);
+    }
+    master_lines(s)
+}
+
+// The INT that the CPU sees.
+fn master_int(s: State) -> bool {
+    int(s, MASTER, master_lines(s))
+}
+
+// Whether a chip looks for edges: it is ready, and not level-triggered.
+fn sees_edges(s: State, at: usize) -> bool {
+    ready(s, at) & !has(icu(s, at, IW1), 3)
+}
+
+// Takes in what a chip's lines did during a record: a rise asks, a fall withdraws. `also` has bit 0 set where OUT0 rose on the way. The last change
+// counts: a line that is low now has fallen since it asked, if it ever did.
+fn take_edges(s: State, at: usize, before: u32, also: u32) -> State {
+    let now = lines(s, at);
+    let edges = icu(s, at, EDGES);
     let rose = now & !before | also;
-    let asking = (get(s, EDGES) | rose) & now;
-    set(s, EDGES, choose(sees_edges(s), asking, get(s, EDGES)))
+    let asking = (edges | rose) & now;
+    set_icu(s, at, EDGES, choose(sees_edges(s, at), asking, edges))
 }
 
-fn icu_write_status(s: State, a0: u32, b: u32) -> u32 {
-    let stage = get(s, STAGE);
+// Both chips, after a record from board s on. The slave comes first: its INT is the master's line 7, which moves once at most.
+fn follow(next: State, s: State, also: u32) -> State {
+    let settled = take_edges(next, SLAVE, slave_lines(s), 0);
+    take_edges(settled, MASTER, master_lines(s), also)
+}
+
+// The one IW3 of each chip: a slave on the master's line 7, and slave number 7.
+fn third_word(at: usize) -> u32 {
+    choose(at == SLAVE, 0x07, 0x80)
+}
+
+// A0=1: out of turn before the first IW1, and a wrong IW3 is not built.
+fn second_port_status(s: State, at: usize, b: u32) -> u32 {
+    let stage = icu(s, at, STAGE);
+    match stage {
+        0 => 3,
+        4 => number(b != third_word(at)) * 4,
+        _ => 0,
+    }
+}
+
+fn icu_write_status(s: State, at: usize, a0: u32, b: u32) -> u32 {
     if a0 == 1 {
-        return number(stage == 0) * 3;
+        return second_port_status(s, at, b);
     }
     if has(b, 4) {
-        return number(!has(b, 1)) * 4;
+        return 0;
     }
-    if stage != 3 {
+    if !ready(s, at) {
         return 3;
     }
     number(has(b, 3) & (has(b, 2) | (b & 0x60 == 0x60))) * 4
 }
 
-fn first_word(s: State, b: u32) -> State {
-    let begun = set(set(set(s, STAGE, 1), IW1, b), IW4, 0);
-    let ranked = set(set(set(begun, TURNS, 0), LOWEST, 7), IMR, 0);
-    set(set(set(ranked, ISR, 0), EDGES, 0), SHOWN, 0)
+fn first_word(s: State, at: usize, b: u32) -> State {
+    let begun = set_icu(set_icu(s, at, STAGE, 1), at, IW1, b);
+    let still = set_icu(set_icu(begun, at, IW4, 0), at, TURNS, 0);
+    let ranked = set_icu(set_icu(still, at, LOWEST, 7), at, IMR, 0);
+    let idle = set_icu(set_icu(ranked, at, ISR, 0), at, EDGES, 0);
+    set_icu(idle, at, SHOWN, 0)
 }
 
-// A0=1: IW2, IW4 or the mask, by what is awaited.
-fn second_port(s: State, b: u32) -> State {
-    let stage = get(s, STAGE);
+// What follows the words that every chip of its kind has: IW4 where IW1 announced it (D0), else nothing.
+fn after_words(s: State, at: usize) -> u32 {
+    3 - bit(icu(s, at, IW1), 0)
+}
+
+// A0=1: IW2, IW3, IW4 or the mask, by what is awaited. An extended chip (D1 of IW1 is 0) has IW3 after IW2.
+fn second_port(s: State, at: usize, b: u32) -> State {
+    let stage = icu(s, at, STAGE);
+    let extended = !has(icu(s, at, IW1), 1);
+    let after = after_words(s, at);
     match stage {
-        1 => set(set(s, IW2, b), STAGE, 3 - bit(get(s, IW1), 0)),
-        2 => set(set(s, IW4, b % 4), STAGE, 3),
-        _ => set(s, IMR, b),
+        1 => set_icu(
+            set_icu(s, at, IW2, b),
+            at,
+            STAGE,
+            choose(extended, 4, after),
+        ),
+        2 => set_icu(set_icu(s, at, IW4, b % 4), at, STAGE, 3),
+        4 => set_icu(s, at, STAGE, after),
+        _ => set_icu(s, at, IMR, b),
     }
 }
 
 // PFCW: the level that it is about, 8 if none.
-fn finish_level(s: State, b: u32) -> u32 {
-    let lowest = get(s, LOWEST);
-    let rank = best_rank(get(s, ISR), lowest);
+fn finish_level(s: State, at: usize, b: u32) -> u32 {
+    let lowest = icu(s, at, LOWEST);
+    let rank = best_rank(icu(s, at, ISR), lowest);
     choose(
         has(b, 6),
         b % 8,
@@ -439,53 +519,60 @@ fn finish_level(s: State, b: u32) -> u32 {
 }
 
 // PFCW. D5 (FI) clears the level's bit of ISR, D7 (RP) makes it lowest. With FI and SIL both 0 it is the switch of rotation in self-FI instead.
-fn finish_word(s: State, b: u32) -> State {
-    let level = finish_level(s, b);
+fn finish_word(s: State, at: usize, b: u32) -> State {
+    let level = finish_level(s, at, b);
+    let isr = icu(s, at, ISR);
     if b & 0x60 == 0 {
-        return set(s, TURNS, bit(b, 7));
+        return set_icu(s, at, TURNS, bit(b, 7));
     }
     if level > 7 {
         return s;
     }
-    let isr = choose(has(b, 5), get(s, ISR) & !one(level), get(s, ISR));
-    let lowest = choose(has(b, 7), level, get(s, LOWEST));
-    set(set(s, ISR, isr), LOWEST, lowest)
+    let left = choose(has(b, 5), isr & !one(level), isr);
+    let lowest = choose(has(b, 7), level, icu(s, at, LOWEST));
+    set_icu(set_icu(s, at, ISR, left), at, LOWEST, lowest)
 }
 
-fn icu_write(s: State, a0: u32, b: u32) -> State {
+fn icu_write(s: State, at: usize, a0: u32, b: u32) -> State {
     if a0 == 1 {
-        return second_port(s, b);
+        return second_port(s, at, b);
     }
     if has(b, 4) {
-        return first_word(s, b);
+        return first_word(s, at, b);
     }
     if has(b, 3) {
-        return set(s, SHOWN, choose(has(b, 1), bit(b, 0), get(s, SHOWN)));
+        let shown = choose(has(b, 1), bit(b, 0), icu(s, at, SHOWN));
+        return set_icu(s, at, SHOWN, shown);
     }
-    finish_word(s, b)
+    finish_word(s, at, b)
 }
 
-fn icu_read(s: State, a0: u32) -> u32 {
+fn icu_read(s: State, at: usize, a0: u32) -> u32 {
     if a0 == 1 {
-        return get(s, IMR);
+        return icu(s, at, IMR);
     }
-    choose(get(s, SHOWN) == 1, get(s, ISR), irr(s))
+    choose(
+        icu(s, at, SHOWN) == 1,
+        icu(s, at, ISR),
+        irr(s, at, lines(s, at)),
+    )
 }
 
 // The state's part of an acknowledge of level n.
-fn accept(s: State, n: u32) -> State {
-    let taken = set(s, EDGES, get(s, EDGES) & !one(n));
-    if has(get(s, IW4), 1) {
-        return set(taken, LOWEST, choose(get(s, TURNS) == 1, n, get(s, LOWEST)));
+fn accept(s: State, at: usize, n: u32) -> State {
+    let taken = set_icu(s, at, EDGES, icu(s, at, EDGES) & !one(n));
+    if has(icu(s, at, IW4), 1) {
+        let lowest = choose(icu(s, at, TURNS) == 1, n, icu(s, at, LOWEST));
+        return set_icu(taken, at, LOWEST, lowest);
     }
-    set(taken, ISR, get(s, ISR) | one(n))
+    set_icu(taken, at, ISR, icu(s, at, ISR) | one(n))
 }
 
 // What the CPU is handed for level n: its vector, or the bytes of its CALL.
-fn hand_over(s: State, n: u32) -> Effect {
-    let iw1 = get(s, IW1);
-    let iw2 = get(s, IW2);
-    if has(get(s, IW4), 0) {
+fn hand_over(s: State, at: usize, n: u32) -> Effect {
+    let iw1 = icu(s, at, IW1);
+    let iw2 = icu(s, at, IW2);
+    if has(icu(s, at, IW4), 0) {
         return with_data(s, iw2 & 0xF8 | n);
     }
     // The low byte of the CALL address.
@@ -493,16 +580,63 @@ fn hand_over(s: State, n: u32) -> Effect {
     with_words(s, 0, word(0xCD, low, iw2, 0), 0)
 }
 
-// With INT low it is handed level 7's, whatever ranks lowest, and nothing changes.
-fn acknowledge(s: State) -> Effect {
-    if !int(s) {
-        return hand_over(s, 7);
-    }
-    let n = level_at(request_rank(s), get(s, LOWEST));
-    hand_over(accept(s, n), n)
+// The level that asks with the best rank.
+fn offered(s: State, at: usize) -> u32 {
+    level_at(request_rank(s, at, lines(s, at)), icu(s, at, LOWEST))
 }
 
-// Why INT is low.
+// One chip answers by itself. With INT low it hands over level 7's, whatever ranks lowest, and nothing changes.
+fn answer(s: State, at: usize) -> Effect {
+    if !int(s, at, lines(s, at)) {
+        return hand_over(s, at, 7);
+    }
+    let n = offered(s, at);
+    hand_over(accept(s, at, n), at, n)
+}
+
+// What a chip counts as.
+pub const UNREADY: u32 = 0;
+
+pub const SINGLE: u32 = 1;
+
+pub const EXTENDED_CALL: u32 = 2;
+
+pub const EXTENDED_VECTOR: u32 = 3;
+
+fn scale(s: State, at: usize) -> u32 {
+    if !ready(s, at) {
+        return UNREADY;
+    }
+    choose(
+        has(icu(s, at, IW1), 1),
+        SINGLE,
+        EXTENDED_CALL + icu(s, at, IW4) % 2,
+    )
+}
+
+// Out of turn: the master is not ready, or a chip is extended and the other one is not the same.
+fn acknowledge_status(s: State) -> u32 {
+    let master = scale(s, MASTER);
+    let slave = scale(s, SLAVE);
+    let extended = (master > SINGLE) | (slave > SINGLE);
+    number((master == UNREADY) | (extended & (master != slave))) * 3
+}
+
+// Whether the master leaves the answer to the slave: it is extended and takes level 7.
+fn passes_on(s: State) -> bool {
+    let called = (offered(s, MASTER) == 7) & master_int(s);
+    called & (scale(s, MASTER) > SINGLE)
+}
+
+// The master's own step is that of any level.
+fn acknowledge(s: State) -> Effect {
+    if passes_on(s) {
+        return answer(accept(s, MASTER, 7), SLAVE);
+    }
+    answer(s, MASTER)
+}
+
+// Why a chip's INT is low.
 
 // It is high, or the chip is not ready.
 pub const NO_CAUSE: u32 = 0;
@@ -513,17 +647,18 @@ pub const MASKED: u32 = 2;
 // No level that asks and is not masked outranks those in service.
 pub const OUTRANKED: u32 = 3;
 
-fn cause(s: State) -> u32 {
-    if !ready(s) | int(s) {
+fn cause(s: State, at: usize) -> u32 {
+    let asking = irr(s, at, lines(s, at));
+    if !ready(s, at) | int(s, at, lines(s, at)) {
         return NO_CAUSE;
     }
-    if irr(s) == 0 {
+    if asking == 0 {
         return NOTHING_ASKS;
     }
-    choose(irr(s) & !get(s, IMR) == 0, MASKED, OUTRANKED)
+    choose(asking & !icu(s, at, IMR) == 0, MASKED, OUTRANKED)
 }
 
-// What the duel counts by: the requests as they stand.
+// What the duel counts by: the master's requests as they stand.
 pub struct Asking {
     // Why INT is low.
     pub cause: u32,
@@ -536,11 +671,44 @@ pub struct Asking {
 
 pub fn who_asks(s: State) -> Asking {
     Asking {
-        cause: cause(s),
-        edges: get(s, EDGES),
-        by_edge: number(sees_edges(s)),
-        imr: get(s, IMR),
+        cause: cause(s, MASTER),
+        edges: icu(s, MASTER, EDGES),
+        by_edge: number(sees_edges(s, MASTER)),
+        imr: icu(s, MASTER, IMR),
         out0: timer(s, 0, OUT),
+    }
+}
+
+// And: both chips as they stand.
+pub struct Joined {
+    // What each counts as, and 1 where it awaits IW3.
+    pub master: u32,
+    pub slave: u32,
+    pub master_awaits: u32,
+    pub slave_awaits: u32,
+    // 1 where the master's INT is high, and the level that it then takes.
+    pub calls: u32,
+    pub level: u32,
+    // 1 where the slave's INT is high, and why it is low.
+    pub offers: u32,
+    pub cause: u32,
+    // 1 where INTP7 is high, the slave's INT aside.
+    pub intp7: u32,
+    pub by_edge: u32,
+}
+
+pub fn both_chips(s: State) -> Joined {
+    Joined {
+        master: scale(s, MASTER),
+        slave: scale(s, SLAVE),
+        master_awaits: number(icu(s, MASTER, STAGE) == 4),
+        slave_awaits: number(icu(s, SLAVE, STAGE) == 4),
+        calls: number(master_int(s)),
+        level: offered(s, MASTER),
+        offers: number(slave_int(s)),
+        cause: cause(s, SLAVE),
+        intp7: bit(icu(s, MASTER, INTP), 7),
+        by_edge: number(sees_edges(s, MASTER)),
     }
 }
 
@@ -1143,23 +1311,23 @@ fn cycle(s: State, ended: bool, device: u8, memory: &mut [u8]) -> Effect {
 // The board.
 
 fn write_status(s: State, port: u32, b: u32) -> u32 {
-    if port < 2 {
-        return icu_write_status(s, port, b);
+    let chip = port / 16;
+    match chip {
+        0 => icu_write_status(s, MASTER, port % 2, b),
+        1 => timer_write_status(s, port % 4, b),
+        2 => dma_write_status(port % 16, b),
+        _ => icu_write_status(s, SLAVE, port % 2, b),
     }
-    if port < 0x14 {
-        return timer_write_status(s, port % 4, b);
-    }
-    dma_write_status(port % 16, b)
 }
 
 fn read_status(s: State, port: u32) -> u32 {
-    if port < 2 {
-        return number(!ready(s)) * 3;
+    let chip = port / 16;
+    match chip {
+        0 => number(!ready(s, MASTER)) * 3,
+        1 => number(timer(s, port % 4, MODE) == 0) * 3,
+        2 => dma_read_status(port % 16),
+        _ => number(!ready(s, SLAVE)) * 3,
     }
-    if port < 0x14 {
-        return number(timer(s, port % 4, MODE) == 0) * 3;
-    }
-    dma_read_status(port % 16)
 }
 
 // What the chip says of a write, a read or an acknowledge; the bus must not be in service.
@@ -1167,7 +1335,7 @@ fn chip_status(s: State, op: u32, x: u32, y: u32) -> u32 {
     match op {
         1 => write_status(s, x, y),
         2 => read_status(s, x),
-        4 => number(!ready(s)) * 3,
+        4 => acknowledge_status(s),
         _ => 0,
     }
 }
@@ -1185,29 +1353,30 @@ fn status_of(s: State, low: u32, high: u32, op: u32, x: u32, y: u32) -> u32 {
 }
 
 fn write(s: State, port: u32, b: u32) -> State {
-    if port < 2 {
-        return icu_write(s, port, b);
+    let chip = port / 16;
+    match chip {
+        0 => icu_write(s, MASTER, port % 2, b),
+        1 => timer_write(s, port % 4, b),
+        2 => dma_write(s, port % 16, b),
+        _ => icu_write(s, SLAVE, port % 2, b),
     }
-    if port < 0x14 {
-        return timer_write(s, port % 4, b);
-    }
-    dma_write(s, port % 16, b)
 }
 
 fn read(s: State, port: u32) -> Effect {
-    if port < 2 {
-        return with_data(s, icu_read(s, port));
+    let chip = port / 16;
+    match chip {
+        0 => with_data(s, icu_read(s, MASTER, port % 2)),
+        1 => timer_read(s, port % 4),
+        2 => dma_read(s, port % 16),
+        _ => with_data(s, icu_read(s, SLAVE, port % 2)),
     }
-    if port < 0x14 {
-        return timer_read(s, port % 4);
-    }
-    dma_read(s, port % 16)
 }
 
 fn set_lines(s: State, group: u32, levels: u32) -> State {
     match group {
-        0 => set(s, INTP, levels),
+        0 => set_icu(s, MASTER, INTP, levels),
         2 => set(s, REQUESTS, levels),
+        3 => set_icu(s, SLAVE, INTP, levels),
         _ => gate(
             gate(gate(s, 0, bit(levels, 0)), 1, bit(levels, 1)),
             2,
@@ -1230,7 +1399,10 @@ fn obey(s: State, op: u32, x: u32, y: u32, high: u32, memory: &mut [u8]) -> Effe
 }
 
 fn levels(s: State) -> u32 {
-    timer(s, 0, OUT) % 2 + timer(s, 1, OUT) % 2 * 2 + timer(s, 2, OUT) % 2 * 4 + number(int(s)) * 8
+    timer(s, 0, OUT) % 2
+        + timer(s, 1, OUT) % 2 * 2
+        + timer(s, 2, OUT) % 2 * 4
+        + number(master_int(s)) * 8
 }
 
 // The board after a record, and the record's answer.
@@ -1277,5 +1449,5 @@ pub fn second_step(s: State, low: u32, high: u32, memory: &mut [u8]) -> Answered
     }
     let d = obey(s, op, x, y, high, memory);
     let next = d.s;
-    sealed(take_edges(next, lines(s), d.rose), d, 0, op)
+    sealed(follow(next, s, d.rose), d, 0, op)
 }
