@@ -1,13 +1,13 @@
-/* A plain C board by the project's description of its three chips and the decisions in docs/DECISIONS.md: state in one struct that is changed
+/* A plain C board by the project's description of its chips and the decisions in docs/DECISIONS.md: state in one struct that is changed
  * in place, functions over pointers. It is what the bench measures the proved board against, and a third opinion on every answer. (When it was
  * written, the proved board's structs, its loop over pulses and the start of its `intake` had been read, for the header; the code of the chips had not.) */
 #include "board.h"
 
 enum { DONE, BUSY, NO_SUCH, OUT_OF_TURN, NOT_BUILT, COUNT_ONE = 6, REFUSED }; /* 5 is never given */
-enum { BEFORE_IW1, WANTS_IW2, WANTS_IW4, READY };
-enum { NO_MODE = 255, NOBODY = 255 };
+enum { NO_MODE = 255, NOBODY = 255, NO_LEVEL = 8 };
+enum { MASTERS_IW3 = 0x80, SLAVES_IW3 = 0x07 }; /* a slave on line 7; the slave on line 7 */
 
-/* ---- the interrupt chip ---- */
+/* ---- the interrupt chips ---- */
 
 /* x with the level after the bottom one at bit 0: bit r is the level of rank r. */
 static inline unsigned ranked(unsigned x, unsigned bottom)
@@ -21,32 +21,32 @@ static inline unsigned top_level(unsigned x, unsigned bottom)
     return (bottom + 1 + (unsigned)__builtin_ctz(ranked(x, bottom))) & 7;
 }
 
-static inline unsigned lines_of(const struct plain_board *b)
+static inline unsigned requests_of(const struct plain_pic *p, unsigned lines)
 {
-    return b->pic.lines | b->counter[0].out;
+    return p->by_level ? lines : p->pressed;
 }
 
-static inline unsigned requests_of(const struct plain_board *b)
+static inline unsigned int_high(const struct plain_pic *p, unsigned lines)
 {
-    return b->pic.by_level ? lines_of(b) : b->pic.pressed;
-}
-
-static inline int int_high(const struct plain_board *b)
-{
-    const struct plain_pic *p = &b->pic;
     if (p->phase != READY)
         return 0;
-    unsigned asks = ranked(requests_of(b) & ~(unsigned)p->mask, p->bottom), busy = ranked(p->service, p->bottom);
+    unsigned asks = ranked(requests_of(p, lines) & ~(unsigned)p->mask, p->bottom), busy = ranked(p->service, p->bottom);
     /* the lowest bit of asks is below the lowest of busy */
     return (asks & -asks) != 0 && (busy == 0 || (asks & -asks) < (busy & -busy));
 }
 
-/* The lines were `was`. While ready, a line that rose makes its request and one that fell takes it back; the requests of the others stay. */
-static inline void lines_moved(struct plain_board *b, unsigned was)
+/* The lines of `moved` are now as in `is`. While ready, one that rose makes its request and one that fell takes it back; the requests of the
+ * others stay. */
+static inline void lines_moved(struct plain_pic *p, unsigned moved, unsigned is)
 {
-    unsigned is = lines_of(b), moved = was ^ is;
-    if (b->pic.phase == READY)
-        b->pic.pressed = (byte)((b->pic.pressed & ~moved) | (is & moved));
+    if (p->phase == READY)
+        p->pressed = (byte)((p->pressed & ~moved) | (is & moved));
+}
+
+static inline void set_lines(struct plain_pic *p, unsigned is)
+{
+    lines_moved(p, p->lines ^ is, is);
+    p->lines = (byte)is;
 }
 
 static int finish_word(struct plain_pic *p, unsigned data)
@@ -71,22 +71,26 @@ static int finish_word(struct plain_pic *p, unsigned data)
     return DONE;
 }
 
-static int pic_write(struct plain_pic *p, unsigned a0, unsigned data)
+static int pic_write(struct plain_pic *p, unsigned iw3, unsigned a0, unsigned data)
 {
     if (a0) {
         switch (p->phase) {
         case BEFORE_IW1: return OUT_OF_TURN;
-        case WANTS_IW2: p->iw2 = (byte)data; p->phase = p->wants_iw4 ? WANTS_IW4 : READY; return DONE;
+        case WANTS_IW2: p->iw2 = (byte)data; p->phase = p->extended ? WANTS_IW3 : p->wants_iw4 ? WANTS_IW4 : READY; return DONE;
+        case WANTS_IW3:
+            if (data != iw3)
+                return NOT_BUILT;
+            p->phase = p->wants_iw4 ? WANTS_IW4 : READY;
+            return DONE;
         case WANTS_IW4: p->self_finish = data >> 1 & 1; p->vectored = data & 1; p->phase = READY; return DONE;
         default: p->mask = (byte)data; return DONE;
         }
     }
     if (data & 0x10) {
-        if (!(data & 2))
-            return NOT_BUILT;
         p->page = data & 0xE0;
         p->by_level = data >> 3 & 1;
         p->spaced4 = data >> 2 & 1;
+        p->extended = !(data & 2);
         p->wants_iw4 = data & 1;
         p->pressed = p->service = p->mask = 0;
         p->shows_service = p->rotating = p->self_finish = p->vectored = 0;
@@ -105,36 +109,74 @@ static int pic_write(struct plain_pic *p, unsigned a0, unsigned data)
     return DONE;
 }
 
-static int pic_read(const struct plain_board *b, unsigned a0, byte *data)
+static int pic_read(const struct plain_pic *p, unsigned lines, unsigned a0, byte *data)
 {
-    const struct plain_pic *p = &b->pic;
     if (p->phase != READY)
         return OUT_OF_TURN;
-    *data = a0 ? p->mask : p->shows_service ? p->service : (byte)requests_of(b);
+    *data = a0 ? p->mask : p->shows_service ? p->service : (byte)requests_of(p, lines);
     return DONE;
 }
 
-/* With INT low it is answered as level 7, and the chip stays as it is. */
-static int acknowledge(struct plain_board *b, byte *answer)
+/* The level that an acknowledge takes. With INT low it is none, and the chip stays as it is. */
+static inline unsigned take_level(struct plain_pic *p, unsigned lines)
 {
-    struct plain_pic *p = &b->pic;
-    unsigned n = 7;
-    if (p->phase != READY)
-        return OUT_OF_TURN;
-    if (int_high(b)) {
-        n = top_level(requests_of(b) & ~(unsigned)p->mask, p->bottom);
-        p->pressed &= (byte)~(1u << n);
-        if (!p->self_finish)
-            p->service |= (byte)(1u << n);
-        else if (p->rotating)
-            p->bottom = (byte)n;
-    }
+    if (!int_high(p, lines))
+        return NO_LEVEL;
+    unsigned n = top_level(requests_of(p, lines) & ~(unsigned)p->mask, p->bottom);
+    p->pressed &= (byte)~(1u << n);
+    if (!p->self_finish)
+        p->service |= (byte)(1u << n);
+    else if (p->rotating)
+        p->bottom = (byte)n;
+    return n;
+}
+
+/* The vector or the CALL of a level; no level is answered as level 7. */
+static inline void give_bytes(const struct plain_pic *p, unsigned n, byte *answer)
+{
+    if (n == NO_LEVEL)
+        n = 7;
     if (p->vectored) {
         answer[2] = (byte)((p->iw2 & 0xF8) | n);
     } else {
         answer[4] = 0xCD;
         answer[5] = p->spaced4 ? (byte)(p->page | n << 2) : (byte)((p->page & 0xC0) | n << 3);
         answer[6] = p->iw2;
+    }
+}
+
+/* The master's eight lines: OUT0, INTP1-INTP6, and INTP7 or the slave's INT. */
+static inline unsigned lines_of(const struct plain_board *b)
+{
+    return b->pic.lines | b->counter[0].out;
+}
+
+/* The slave, or a line of it, is another: its INT is worked out, and the master's line 7 follows. */
+static void slave_moved(struct plain_board *b)
+{
+    b->slave_int = (byte)(int_high(&b->slave, b->slave.lines) << 7);
+    set_lines(&b->pic, b->intp | b->slave_int);
+}
+
+/* OUT0 was `was`. */
+static inline void out0_moved(struct plain_board *b, unsigned was)
+{
+    lines_moved(&b->pic, was ^ b->counter[0].out, b->counter[0].out);
+}
+
+/* Out of turn, unless the master is ready and either neither chip is extended (which a chip is once it is ready) or both are, in one mode. Then the
+ * master's level 7 is the slave's to answer. */
+static int acknowledge(struct plain_board *b, byte *answer)
+{
+    struct plain_pic *p = &b->pic, *s = &b->slave;
+    if (p->phase != READY || p->extended != (s->phase == READY && s->extended) || (p->extended && p->vectored != s->vectored))
+        return OUT_OF_TURN;
+    unsigned n = take_level(p, lines_of(b));
+    if (n == 7 && p->extended) {
+        give_bytes(s, take_level(s, s->lines), answer);
+        slave_moved(b);
+    } else {
+        give_bytes(p, n, answer);
     }
     return DONE;
 }
@@ -327,8 +369,8 @@ static void advance(struct plain_board *b, word pulses, byte *answer)
             pulse(&b->counter[i]);
             rises[i] += (word)(b->counter[i].out & ~out);
         }
-        if (b->counter[0].out != out0) /* no other line moves in a pulse */
-            lines_moved(b, lines_of(b) ^ 1);
+        if (b->counter[0].out != out0)
+            out0_moved(b, out0);
     }
     for (int i = 0; i < 3; i++)
         put32(answer + 4 + 4 * i, rises[i]);
@@ -490,7 +532,7 @@ static void dma_cycle(struct plain_dma *d, unsigned end, byte device, byte *memo
 void plain_reset(struct plain_board *b)
 {
     __builtin_memset(b, 0, sizeof *b);
-    b->pic.bottom = 7;
+    b->pic.bottom = b->slave.bottom = 7;
     for (int i = 0; i < 3; i++) {
         b->counter[i].mode = NO_MODE;
         b->counter[i].gate = 1;
@@ -511,15 +553,15 @@ static inline int well_formed(const byte *r)
     case 1:
         if (all >> 24)
             return 0;
-        return r[1] <= 1 || (r[1] >= 0x10 && r[1] <= 0x13) || (r[1] >= 0x20 && r[1] <= 0x2F && r[1] != 0x27 && r[1] != 0x2B);
+        return r[1] <= 1 || (r[1] >= 0x10 && r[1] <= 0x13) || (r[1] >= 0x20 && r[1] <= 0x31 && r[1] != 0x27 && r[1] != 0x2B);
     case 2:
         if (all >> 16)
             return 0;
-        return r[1] <= 1 || (r[1] >= 0x10 && r[1] <= 0x12) || (r[1] >= 0x21 && r[1] <= 0x2F && r[1] != 0x27);
+        return r[1] <= 1 || (r[1] >= 0x10 && r[1] <= 0x12) || (r[1] >= 0x21 && r[1] <= 0x31 && r[1] != 0x27);
     case 3:
         if (all >> 24)
             return 0;
-        return (r[1] == 0 && !(r[2] & 1)) || (r[1] == 1 && r[2] < 8) || (r[1] == 2 && r[2] < 16);
+        return (r[1] == 0 && !(r[2] & 1)) || (r[1] == 1 && r[2] < 8) || (r[1] == 2 && r[2] < 16) || r[1] == 3;
     case 5:
         return (all & 0xFFFFFF00) == 0 && all >> 48 == 0;
     case 6:
@@ -530,7 +572,7 @@ static inline int well_formed(const byte *r)
 
 static inline int obey(struct plain_board *b, const byte *r, byte *memory, length memory_length, byte *answer)
 {
-    unsigned was = lines_of(b);
+    unsigned out0 = b->counter[0].out;
     int status = DONE;
     if (!well_formed(r))
         return NO_SUCH;
@@ -547,31 +589,41 @@ static inline int obey(struct plain_board *b, const byte *r, byte *memory, lengt
     }
     case 1:
         if (r[1] < 0x10) {
-            status = pic_write(&b->pic, r[1], r[2]);
+            status = pic_write(&b->pic, MASTERS_IW3, r[1], r[2]);
         } else if (r[1] < 0x20) {
             status = r[1] == 0x13 ? counter_control(b, r[2]) : counter_write(&b->counter[r[1] & 3], r[2]);
-            lines_moved(b, was);
-        } else {
+            out0_moved(b, out0);
+        } else if (r[1] < 0x30) {
             status = dma_write(&b->dma, r[1] & 15, r[2]);
+        } else {
+            status = pic_write(&b->slave, SLAVES_IW3, r[1] & 1, r[2]);
+            slave_moved(b);
         }
         break;
     case 2:
         if (r[1] < 0x10)
-            status = pic_read(b, r[1], &answer[2]);
+            status = pic_read(&b->pic, lines_of(b), r[1], &answer[2]);
         else if (r[1] < 0x20)
             status = counter_read(&b->counter[r[1] & 3], &answer[2]);
-        else
+        else if (r[1] < 0x30)
             status = dma_read(&b->dma, r[1] & 15, &answer[2]);
+        else
+            status = pic_read(&b->slave, b->slave.lines, r[1] & 1, &answer[2]);
         break;
     case 3:
-        if (r[1] == 0)
-            b->pic.lines = r[2];
-        else if (r[1] == 1)
+        if (r[1] == 0) {
+            b->intp = r[2];
+            set_lines(&b->pic, b->intp | b->slave_int);
+        } else if (r[1] == 1) {
             for (int i = 0; i < 3; i++)
                 set_gate(&b->counter[i], r[2] >> i & 1u);
-        else
+            out0_moved(b, out0);
+        } else if (r[1] == 2) {
             b->dma.requests = r[2];
-        lines_moved(b, was);
+        } else {
+            set_lines(&b->slave, r[2]);
+            slave_moved(b);
+        }
         break;
     case 4:
         status = acknowledge(b, answer);
@@ -591,16 +643,20 @@ static inline void run_record(struct plain_board *b, const byte *r, byte *memory
     __builtin_memset(answer, 0, 16);
     answer[0] = (byte)obey(b, r, memory, memory_length, answer);
     answer[1] = r[0];
-    answer[3] = (byte)(b->counter[0].out | b->counter[1].out << 1 | b->counter[2].out << 2 | int_high(b) << 3);
+    answer[3] = (byte)(b->counter[0].out | b->counter[1].out << 1 | b->counter[2].out << 2 | int_high(&b->pic, lines_of(b)) << 3);
+}
+
+static inline int pic_in_range(const struct plain_pic *p)
+{
+    int good = p->phase <= READY && !(p->page & 0x1F) && p->bottom < 8;
+    return good && (p->by_level | p->spaced4 | p->extended | p->wants_iw4 | p->self_finish | p->vectored | p->rotating | p->shows_service) < 2;
 }
 
 /* Every field is one that a board can have. */
 static int in_range(const struct plain_board *b)
 {
-    const struct plain_pic *p = &b->pic;
     const struct plain_dma *d = &b->dma;
-    int good = p->phase <= READY && !(p->page & 0x1F) && p->bottom < 8 && !(p->lines & 1);
-    good = good && (p->by_level | p->spaced4 | p->wants_iw4 | p->self_finish | p->vectored | p->rotating | p->shows_service) < 2;
+    int good = pic_in_range(&b->pic) && pic_in_range(&b->slave) && !(b->intp & 1) && !(b->slave_int & 0x7F) && b->pic.lines == (b->intp | b->slave_int);
     for (int i = 0; i < 3; i++) {
         const struct plain_counter *c = &b->counter[i];
         good = good && (c->mode <= 5 || c->mode == NO_MODE) && c->access < 4;

@@ -7,15 +7,18 @@ typedef unsigned short half;
 typedef unsigned int word;
 typedef unsigned long length;
 
+enum { BEFORE_IW1, WANTS_IW2, WANTS_IW3, WANTS_IW4, READY };
+
+/* An interrupt chip: the master or the slave. */
 struct plain_pic {
-    byte phase;   /* the next initialization word, or ready */
+    byte phase;   /* the next initialization word, or READY */
     byte page;    /* A7-A5, in place */
-    byte by_level, spaced4, wants_iw4;
+    byte by_level, spaced4, extended, wants_iw4;
     byte iw2;
     byte self_finish, vectored, rotating, shows_service;
     byte pressed; /* edge requests: of lines that rose while ready, and have not fallen or been acknowledged since */
     byte service, mask, bottom;
-    byte lines;   /* INTP1-INTP7 */
+    byte lines;   /* the levels of its lines; of the master's, all but OUT0 */
 };
 
 struct plain_counter {
@@ -45,7 +48,8 @@ struct plain_dma {
 };
 
 struct plain_board {
-    struct plain_pic pic;
+    struct plain_pic pic, slave;
+    byte intp, slave_int; /* what the master's lines are joined from: INTP1-INTP7, and the slave's INT at bit 7 */
     struct plain_counter counter[3];
     struct plain_dma dma;
     byte waiting[7], waits; /* a cut record */

@@ -1,4 +1,4 @@
-/* driver compare SEED TAPES       feeds random tapes in random lumps to both boards and compares every answer and the memory
+/* driver compare SEED TAPES       feeds random tapes in random lumps to both boards and compares every answer, the memory and the boards at the end
  * driver time REPEATS [WORD]      times both boards on the same tapes, by turns, and prints the ratios; with WORD the lines that have it
  * driver count KIND proved|plain  runs the tape of a timed line once through one board, and prints its items and the line's words
  * driver count                    prints the kinds of the lines that can be counted
@@ -171,6 +171,69 @@ static void put_requests(unsigned pulses)
     }
 }
 
+static unsigned slaves_lines; /* group 3, of put_cascade */
+
+/* The words that make a chip ready, some of them with rotation in self-FI; now and then a wrong IW3 comes first, or an IW1 that announces something else. */
+static void put_words(unsigned port, unsigned iw1, unsigned iw4)
+{
+    unsigned iw3 = port ? 0x07 : 0x80;
+    if (below(16) == 0)
+        put(1, port, below(256) | 0x10), put(1, port + 1, below(256));
+    put(1, port, iw1), put(1, port + 1, below(256));
+    if (!(iw1 & 2)) {
+        if (below(8) == 0)
+            put(1, port + 1, below(2) ? below(256) : iw3 ^ 0x87);
+        put(1, port + 1, iw3);
+    }
+    if (iw1 & 1)
+        put(1, port + 1, iw4);
+    if (below(3) == 0)
+        put(1, port, 0x80);
+}
+
+/* One record for the two interrupt chips, or the words that make them ready: both extended and in one mode most of the time, or set up in any other way;
+ * lines of the slave and of the master turned over, INTP7 above all; masks, finish commands and acknowledges of both. */
+static void put_cascade(unsigned pulses)
+{
+    unsigned k = below(64), port = below(2) * 0x30, vectors;
+    switch (k) {
+    case 0:
+    case 1: /* CALL mode comes with an IW4 or without */
+        vectors = below(2);
+        for (port = 0; port <= 0x30; port += 0x30)
+            put_words(port, 0x10 | (below(256) & 0xE4) | (below(4) == 0) << 3 | (vectors || below(2)), below(128) << 1 | vectors);
+        break;
+    case 2:
+        if (below(2))
+            put_words(0x00, 0x12 | (below(256) & 0xED), below(256)), put_words(0x30, 0x12 | (below(256) & 0xED), below(256));
+        else
+            put_words(port, 0x10 | (below(256) & 0xE7) | (below(4) == 0) << 3, below(256));
+        break;
+    case 3: put(1, port, below(8) ? below(256) & 0xE7 : below(256) | 0x10); break;
+    case 4: put(1, port + 1, below(2) ? 0 : below(256)); break;
+    case 5: put(1, port + 1, below(2) ? 0 : 1u << below(8)); break;
+    case 6: put(1, port, 0x08 | below(4)); break;
+    case 7: put(1, port, below(4) ? 0x80 : 0xC0 | below(8)); break;
+    case 8: put(1, 0x13, 0x10 | below(6) << 1); break;
+    case 9: put(1, 0x10, below(5)); break;
+    case 10:
+    case 11: put_advance(below(pulses)); break;
+    default:
+        if (k < 18)
+            put(2, port + (below(8) == 0), 0);
+        else if (k < 30)
+            put(1, port, below(4) ? 0x20 : 0xA0);
+        else if (k < 34)
+            put(1, 0x30, 0x20), put(1, 0x00, 0x20);
+        else if (k < 40)
+            held ^= below(2) ? 0x80 : 2u << below(7), put(3, 0, held);
+        else if (k < 51)
+            put(4, 0, 0);
+        else
+            slaves_lines ^= 1u << below(8) | (below(4) == 0) << below(8), put(3, 3, slaves_lines);
+    }
+}
+
 /* ---- comparison ---- */
 
 static void show(const char *who, const byte *at, int n)
@@ -197,6 +260,67 @@ static void compare(const char *what, length records, length memory_length)
             printf("bench: the boards differ on %s in memory at %lu: proved %02x, plain %02x\n", what, i, memory[0][i], memory[1][i]);
             exit(1);
         }
+}
+
+static void same(const char *what, unsigned long is, unsigned long plainly)
+{
+    if (is != plainly)
+        printf("bench: after a random tape the boards differ in %s: proved %lx, plain %lx\n", what, is, plainly), exit(1);
+}
+
+static void compare_chips(const char *what, const struct limbusagin_icu *i, const struct plain_pic *p)
+{
+    static const byte stage[] = {[BEFORE_IW1] = 0, [WANTS_IW2] = 1, [WANTS_IW3] = 4, [WANTS_IW4] = 2, [READY] = 3};
+    static const char *const names[] = {"stage", "IW1", "IW2", "self-FI", "vector", "rotation", "reads show ISR", "edge requests", "ISR", "IMR", "lowest"};
+    unsigned iw1 = p->page | 0x10u | (unsigned)p->by_level << 3 | (unsigned)p->spaced4 << 2 | !p->extended << 1 | p->wants_iw4;
+    const unsigned is[] = {i->stage, i->iw1, i->iw2, i->sfi, i->vector, i->rotation, i->showsisr, i->iw1 & 8 ? 0u : i->edges, i->isr,
+                           i->imr, i->lowest};
+    const unsigned plainly[] = {stage[p->phase], p->phase == BEFORE_IW1 ? 0 : iw1, p->iw2, p->self_finish, p->vectored, p->rotating,
+                                p->shows_service, p->by_level ? 0u : p->pressed, p->service, p->mask, p->bottom};
+    for (unsigned f = 0; f < sizeof is / sizeof *is; f++)
+        if (is[f] != plainly[f])
+            printf("%s: ", names[f]), same(what, is[f], plainly[f]);
+}
+
+/* The boards themselves, field by field: edge requests in edge trigger, a latch and half a count while they are in use. */
+static void compare_boards(void)
+{
+    compare_chips("the master", &proved.icu, &plain.pic);
+    compare_chips("the slave", &proved.slave, &plain.slave);
+    same("INTP", proved.intp, plain.intp);
+    same("the slave's lines", proved.slaveintp, plain.slave.lines);
+    for (int i = 0; i < 3; i++) {
+        const struct limbusagin_counter *c = &proved.timer.counters[i];
+        const struct plain_counter *p = &plain.counter[i];
+        same("a counter's mode", c->mode, p->mode);
+        same("a counter's format", c->format, p->access);
+        same("a counter's value", c->value, p->now);
+        same("a counter's count", c->count, p->reload);
+        same("a counter's flags", c->full | c->pending << 1 | c->trigger << 2 | c->half << 3 | c->latched << 4 | c->second << 5 | c->gate << 6 | c->out << 7,
+             p->armed | p->load << 1 | p->retrigger << 2 | p->partial << 3 | p->frozen << 4 | p->upper_next << 5 | p->gate << 6 | p->out << 7);
+        same("a counter's parity", c->odd, p->odd);
+        same("half a count", c->half ? c->low : 0, p->partial ? p->partial_low : 0);
+        same("a latch", c->latched ? c->latch : 0, p->frozen ? p->snapshot : 0);
+    }
+    const struct limbusagin_dma *d = &proved.dma;
+    const struct plain_dma *e = &plain.dma;
+    for (int i = 0; i < 4; i++) {
+        const struct limbusagin_channel *c = &d->channels[i];
+        const struct plain_channel *p = &e->channel[i];
+        same("an address", c->current.address, p->address);
+        same("a count", c->current.count, p->left);
+        same("a base address", c->base.address, p->base_address);
+        same("a base count", c->base.count, p->base_left);
+        same("a channel's mode", c->mode, p->mode);
+        same("a mask", c->masked, e->masked >> i & 1u);
+    }
+    same("registers 1 and 8", d->selected | d->base << 4 | d->rotate << 5 | d->disabled << 6, e->select | e->only_base << 4 | e->rotate << 5 | e->off << 6);
+    same("the first channel", d->first, e->first);
+    same("the channel served", d->serving ? d->channel : 255, e->owner);
+    same("DMA requests and ends", d->requests << 4 | d->ends, (unsigned)e->requests << 4 | e->ended);
+    same("the bytes kept", proved.kept.length, plain.waits);
+    for (int i = 0; i < 7; i++)
+        same("a byte kept", proved.kept.bytes[i], plain.waiting[i]);
 }
 
 /* What the counters of the plain board are at after each lump, by mode: how many, and how many of these each word of `states` is true of. */
@@ -233,6 +357,76 @@ static void note_acknowledge(int high)
         answered[cause][c] += is[c] != 0;
 }
 
+/* What the two interrupt chips came to: how they were set up at each acknowledge that is not refused for its bytes or the bus, and which of these ways
+ * are refused; what became of those with both extended; the moves of the slave's INT; and the IW3s. */
+enum { NOT_READY, BOTH_SINGLE, NO_SLAVE, VECTORS, CALLS, FIRST_REFUSED, TO_NO_SLAVE = FIRST_REFUSED, TO_SINGLE, FROM_SINGLE, TWO_MODES, SET_UPS };
+static const char *const set_ups[SET_UPS] = {"master not ready", "both single", "single, slave not ready", "both extended, vector", "both extended, CALL",
+                                             "extended, slave not ready", "extended, slave single", "single, slave extended", "one vector, one CALL"};
+enum { BY_MASTER, BY_SLAVE, BY_SLAVE_AS_7, AS_7, AS_7_SLAVE_HIGH, GIVERS, CHIP_KINDS = 4 };
+static const char *const givers[GIVERS] = {"levels 0 to 6", "level 7, slave's INT high", "level 7, slave's INT low", "INT low, slave's INT low",
+                                           "INT low, slave's INT high"};
+static const char *const chip_kinds[CHIP_KINDS] = {"edge", "level", "self-FI", "self-FI with rotation"};
+enum { MOVERS = 3, MOVES = 4 };
+static const char *const movers[MOVERS] = {"by a write", "by lines", "by an acknowledge"};
+static const char *const moves[MOVES] = {"rises", "falls", "rises with INTP7 high", "falls with INTP7 high"};
+static unsigned long stood[SET_UPS], given[GIVERS][1 + 2 * CHIP_KINDS], moved[MOVERS][MOVES], stays, parted, slaves_withdrawn, third[2][2];
+
+static int set_up_now(void)
+{
+    const struct plain_pic *p = &plain.pic, *s = &plain.slave;
+    if (p->phase != READY)
+        return NOT_READY;
+    if (s->phase != READY)
+        return p->extended ? TO_NO_SLAVE : NO_SLAVE;
+    if (p->extended != s->extended)
+        return p->extended ? TO_SINGLE : FROM_SINGLE;
+    return !p->extended ? BOTH_SINGLE : p->vectored != s->vectored ? TWO_MODES : p->vectored ? VECTORS : CALLS;
+}
+
+static void note_chip(unsigned long *to, const struct plain_pic *p)
+{
+    to[0] += !p->by_level, to[1] += p->by_level, to[2] += p->self_finish, to[3] += p->self_finish && p->rotating;
+}
+
+/* Before the record is fed; `high` is the master's INT. Whether it is an acknowledge of a request of the slave, by the slave. */
+static int note_cascade(const byte *r, const byte *a, int high)
+{
+    const struct plain_pic *p = &plain.pic, *s = &plain.slave;
+    int by = AS_7;
+    if (r[0] == 4 && (a[0] == 0 || a[0] == 3)) {
+        int now = set_up_now();
+        stood[now]++;
+        if ((a[0] == 3) != (now == NOT_READY || now >= FIRST_REFUSED))
+            printf("bench: an acknowledge has status %d, %s\n", a[0], set_ups[now]), exit(1);
+        if (now == VECTORS || now == CALLS) {
+            unsigned asks = (p->by_level ? p->lines | plain.counter[0].out : p->pressed) & ~(unsigned)p->mask, n = (p->bottom + 1) & 7;
+            while (high && !(asks >> n & 1))
+                n = (n + 1) & 7;
+            by = !high ? plain.slave_int ? AS_7_SLAVE_HIGH : AS_7 : n != 7 ? BY_MASTER : plain.slave_int ? BY_SLAVE : BY_SLAVE_AS_7;
+            given[by][0]++;
+            note_chip(given[by] + 1, p), note_chip(given[by] + 1 + CHIP_KINDS, s);
+        }
+    }
+    if (r[0] == 1 && (r[1] == 0x01 || r[1] == 0x31) && (a[0] == 0 || a[0] == 4) && (r[1] == 0x01 ? p : s)->phase == WANTS_IW3)
+        third[r[1] == 0x31][a[0] == 4]++;
+    return by == BY_SLAVE;
+}
+
+/* After it; the board was `was`. */
+static void note_slave(const byte *r, const byte *a, const struct plain_board *was, int by_slave)
+{
+    unsigned gone = was->slave.pressed & ~(unsigned)plain.slave.pressed, by = r[0] == 1 ? 0 : r[0] == 3 ? 1 : 2;
+    if (r[0] == 0 || a[0])
+        return;
+    if (was->slave_int != plain.slave_int)
+        moved[by][(was->slave_int != 0) + 2 * (plain.intp >> 7)]++;
+    stays += by_slave && plain.slave_int;
+    parted += was->slave_int && plain.slave_int && (was->intp ^ plain.intp) >> 7;
+    if (r[0] == 3 && !plain.slave.by_level)
+        for (; gone; gone &= gone - 1)
+            slaves_withdrawn++;
+}
+
 static void note_requests(length records)
 {
     byte answer[16], levels = 0, none = 0;
@@ -240,12 +434,15 @@ static void note_requests(length records)
     fresh();
     for (length i = 0; i < records; i++) {
         const byte *r = tape + 8 * i, *a = answers[1] + 16 * i;
+        const struct plain_board was = plain;
         unsigned had = plain.pic.pressed, chip = r[0] == 1 && r[1] < 0x10;
         if (r[0] == 4 && a[0] == 0)
             note_acknowledge(levels >> 3 & 1);
+        int by_slave = note_cascade(r, a, levels >> 3 & 1);
         feed_plain(r, 8, &none, 0, answer, 16, &taken);
+        note_slave(r, a, &was, by_slave);
         levels = a[3];
-        if (plain.pic.phase != 3 /* ready */ || plain.pic.by_level || chip || r[0] == 0 || r[0] == 4)
+        if (plain.pic.phase != READY || plain.pic.by_level || chip || r[0] == 0 || r[0] == 4)
             continue;
         for (had &= ~(unsigned)plain.pic.pressed; had; had &= had - 1)
             withdrawn[r[0] == 3 ? 0 : r[0] == 1 ? 1 : 2]++;
@@ -262,11 +459,14 @@ static void compare_random(unsigned long seed, unsigned long tapes)
         size = 0;
         length memory_length = below(3) == 0 ? 0 : below(2) ? below(200) : 70000;
         unsigned wild = below(3) * 4, pulses = below(4) ? 6 : 400, records = 200 + below(3000), timer = below(3) * 40, requests = below(3) * 45;
-        held = 0;
+        unsigned cascade = below(2) * (50 + below(50));
+        held = slaves_lines = 0;
         if (below(2))
             set_up();
         while (size < 8 * records)
-            if (below(100) < requests)
+            if (below(100) < cascade)
+                put_cascade(pulses);
+            else if (below(100) < requests)
                 put_requests(pulses);
             else if (below(100) < timer)
                 put_timer(pulses);
@@ -292,6 +492,7 @@ static void compare_random(unsigned long seed, unsigned long tapes)
         if (done[0] != done[1])
             printf("bench: the boards took %lu and %lu records\n", done[0], done[1]), exit(1);
         compare("a random tape", done[0], memory_length);
+        compare_boards();
         note_requests(done[1]);
         all += done[0];
         for (length i = 0; i < done[0]; i++)
@@ -320,6 +521,32 @@ static void compare_random(unsigned long seed, unsigned long tapes)
     for (int w = 0; w < WAYS; w++)
         printf("%s %s %lu", w ? "," : "", ways[w], withdrawn[w]);
     printf("\n");
+    printf("  acknowledges by how the chips were set up:");
+    for (int c = 0; c < SET_UPS; c++)
+        printf("%s %s %lu%s", c ? "," : "", set_ups[c], stood[c], c == NOT_READY || c >= FIRST_REFUSED ? " refused" : "");
+    printf("\n  of those with both extended, by what they came to: all");
+    for (int c = 0; c < 2 * CHIP_KINDS; c++)
+        printf(", %s %s", c < CHIP_KINDS ? "master" : "slave", chip_kinds[c % CHIP_KINDS]);
+    printf("\n");
+    for (int g = 0; g < GIVERS; g++) {
+        printf("  %s:", givers[g]);
+        for (int c = 0; c < 1 + 2 * CHIP_KINDS; c++)
+            printf(" %lu", given[g][c]);
+        printf("\n");
+    }
+    printf("  moves of the slave's INT:");
+    for (int m = 0; m < MOVES; m++)
+        printf("%s %s", m ? "," : "", moves[m]);
+    printf("\n");
+    for (int b = 0; b < MOVERS; b++) {
+        printf("  %s:", movers[b]);
+        for (int m = 0; m < MOVES; m++)
+            printf(" %lu", moved[b][m]);
+        printf("\n");
+    }
+    printf("  it stayed high over an acknowledge of a slave's request %lu, INTP7 moved while it was high %lu; edge requests that a line of the slave took back %lu\n",
+           stays, parted, slaves_withdrawn);
+    printf("  IW3: master's taken %lu, refused %lu, slave's taken %lu, refused %lu\n", third[0][0], third[0][1], third[1][0], third[1][1]);
     printf("  counters after each lump, by mode:");
     for (int s = 0; s < STATES; s++)
         printf("%s %s", s ? "," : "", states[s]);
@@ -417,6 +644,19 @@ static double units_tape(length records, length mode)
     return (double)records;
 }
 
+/* A slave at work, both chips in vector mode: a line of it rises, is acknowledged, and falls, and both chips get their finish command. */
+static double cascade_tape(length records, length how)
+{
+    (void)how;
+    size = 0;
+    state = 8;
+    put(1, 0x00, 0x11), put(1, 0x01, 0x40), put(1, 0x01, 0x80), put(1, 0x01, 0x01);
+    put(1, 0x30, 0x11), put(1, 0x31, 0x48), put(1, 0x31, 0x07), put(1, 0x31, 0x01);
+    while (size < 8 * records)
+        put(3, 3, 1u << below(8)), put(4, 0, 0), put(3, 3, 0), put(1, 0x30, 0x20), put(1, 0x00, 0x20);
+    return (double)(size / 8);
+}
+
 /* So many records, the chips set up anew for each piece. */
 static double mixed_tape(length records, length piece)
 {
@@ -448,6 +688,7 @@ static const struct line lines[] = {
     {"reads", "record, register reads", reads_tape, 200000, 0, 0, 0},
     {"in", "unit, block, device to memory", units_tape, 200000, 0x94, 0, 0},
     {"out", "unit, block, memory to device", units_tape, 200000, 0x98, 0, 0},
+    {"cascade", "record, a slave's requests", cascade_tape, 200000, 0, 0, 0},
     {"", "record, mixed, tapes of 1,000", mixed_tape, MOST, 1000, 1000, 0},
     {"", "record, mixed, tapes of 10,000", mixed_tape, MOST, 10000, 10000, 0},
     {"", "record, mixed, tapes of 100,000", mixed_tape, MOST, 100000, 100000, 0},

@@ -1,6 +1,6 @@
 /* host SEED [MEMORY] <TAPE >ANSWERS: feeds the tape to a fresh board in random lumps (of 0 to 40 bytes, now and then of some
  * thousands), writes the answers, and leaves the memory in the file MEMORY. It is `./run feed` with other lumps, in C. Before the tape and
- * after it, the board must be in range; a copy with dma.selected 4 must not be, and must be refused.
+ * after it, the board must be in range; copies with dma.selected 4 and with slave.stage 5 must not be, and must be refused.
  *
  * The toolchain's compiler comes without C's headers, so the few functions of the C library are declared here. */
 #include "limbusagin.h"
@@ -67,18 +67,26 @@ static unsigned long below(unsigned long n)
     return (state >> 33) % n;
 }
 
-/* A board that the library gave out is in range. With one field out of range it is not, and a call on it is refused; with no bytes fed, that
- * is for its range alone. */
-static void check_range(struct limbusagin_board board)
+/* Whether a board is out of range, and a call on it refused; with no bytes fed, that is for its range alone. */
+static int is_refused(struct limbusagin_board board)
 {
     unsigned char tape = 0, memory = 0, answers = 0; /* a pointer is valid also for length 0 */
+    return !limbusagin_in_range(board) && limbusagin_feed(board, &tape, 0, &memory, 0, &answers, 0).status == 7;
+}
+
+/* A board that the library gave out is in range; with one field out of range it is not. */
+static void check_range(struct limbusagin_board board)
+{
+    struct limbusagin_board other = board;
     if (!limbusagin_in_range(board))
         fail("a board that the library gave out is not in range");
-    board.dma.selected = 4;
-    if (limbusagin_in_range(board))
-        fail("a board with dma.selected 4 is in range");
-    if (limbusagin_feed(board, &tape, 0, &memory, 0, &answers, 0).status != 7)
-        fail("a board with dma.selected 4 is not refused with 7");
+    other.dma.selected = 4;
+    if (!is_refused(other))
+        fail("a board with dma.selected 4 is in range, or is not refused with 7");
+    other = board;
+    other.slave.stage = 5;
+    if (!is_refused(other))
+        fail("a board with slave.stage 5 is in range, or is not refused with 7");
 }
 
 int main(int words, char **word)

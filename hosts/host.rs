@@ -1,6 +1,6 @@
 //! host SEED [MEMORY] <TAPE >ANSWERS: feeds the tape to a fresh board in random lumps (of 0 to 40 bytes, now and then of some
 //! thousands), writes the answers, and leaves the memory in the file MEMORY. It is `./run feed` with other lumps, in Rust. Before the tape and
-//! after it, the board must be in range; a copy with dma.selected 4 must not be, and must be refused.
+//! after it, the board must be in range; copies with dma.selected 4 and with slave.stage 5 must not be, and must be refused.
 //! host layout: prints where each field of a board lies.
 #![forbid(unsafe_code)]
 
@@ -18,18 +18,25 @@ impl Random {
     }
 }
 
-/// A board that the library gave out is in range. With one field out of range it is not, and a call on it is refused; with no bytes fed, that
-/// is for its range alone.
-fn check_range(mut board: Board) -> Result<(), &'static str> {
+/// Whether a board is out of range, and a call on it refused; with no bytes fed, that is for its range alone.
+fn is_refused(mut board: Board) -> bool {
+    !board.is_in_range() && board.feed(&[], &mut [], &mut []) == Err(Refused)
+}
+
+/// A board that the library gave out is in range; with one field out of range it is not.
+fn check_range(board: Board) -> Result<(), &'static str> {
     if !board.is_in_range() {
         return Err("a board that the library gave out is not in range");
     }
-    board.dma.selected = 4;
-    if board.is_in_range() {
-        return Err("a board with dma.selected 4 is in range");
+    let mut other = board;
+    other.dma.selected = 4;
+    if !is_refused(other) {
+        return Err("a board with dma.selected 4 is in range, or is not refused");
     }
-    if board.feed(&[], &mut [], &mut []) != Err(Refused) {
-        return Err("a board with dma.selected 4 is not refused");
+    other = board;
+    other.slave.stage = 5;
+    if !is_refused(other) {
+        return Err("a board with slave.stage 5 is in range, or is not refused");
     }
     Ok(())
 }
@@ -88,7 +95,8 @@ macro_rules! show_all {
 
 fn layout() {
     show_all!(Board, "", 0; icu.stage, icu.iw1, icu.iw2, icu.sfi, icu.vector, icu.rotation, icu.showsisr, icu.edges, icu.isr, icu.imr,
-        icu.lowest, intp);
+        icu.lowest, intp, slave.stage, slave.iw1, slave.iw2, slave.sfi, slave.vector, slave.rotation, slave.showsisr, slave.edges, slave.isr,
+        slave.imr, slave.lowest, slaveintp);
     for i in 0..3 {
         let from = offset_of!(Board, timer.counters) + i * size_of::<Counter>();
         show_all!(Counter, format!("timer.counters[{i}]."), from; mode, format, value, count, full, pending, trigger, half, low, latched,

@@ -50,6 +50,8 @@ static void list_fields(void)
     int i;
     BOARD(icu.stage) BOARD(icu.iw1) BOARD(icu.iw2) BOARD(icu.sfi) BOARD(icu.vector) BOARD(icu.rotation) BOARD(icu.showsisr)
     BOARD(icu.edges) BOARD(icu.isr) BOARD(icu.imr) BOARD(icu.lowest) BOARD(intp)
+    BOARD(slave.stage) BOARD(slave.iw1) BOARD(slave.iw2) BOARD(slave.sfi) BOARD(slave.vector) BOARD(slave.rotation) BOARD(slave.showsisr)
+    BOARD(slave.edges) BOARD(slave.isr) BOARD(slave.imr) BOARD(slave.lowest) BOARD(slaveintp)
     for (i = 0; i < 3; i++) {
         COUNTER(mode) COUNTER(format) COUNTER(value) COUNTER(count) COUNTER(full) COUNTER(pending) COUNTER(trigger)
         COUNTER(half) COUNTER(low) COUNTER(latched) COUNTER(latch) COUNTER(second) COUNTER(gate) COUNTER(out) COUNTER(odd)
@@ -84,6 +86,26 @@ static const struct pair {
     {1, "W00=12 W01=47", "K", ""},
     {1, "W00=12 W01=47", "W01=5A", "icu.imr=5A"},
     {1, "W00=12 W01=47", "W00=C3", "icu.lowest=3"},
+    {1, "", "W00=11", "icu.stage=1 icu.iw1=11"},
+    {1, "W00=11", "W01=47", "icu.stage=4 icu.iw2=47"},
+    {1, "W00=11 W01=47", "W01=80", "icu.stage=2"},
+    {1, "W00=10 W01=47", "W01=80", "icu.stage=3"},
+    {1, "", "W30=51", "slave.stage=1 slave.iw1=51"},
+    {1, "W30=11", "W31=47", "slave.stage=4 slave.iw2=47"},
+    {1, "W30=11 W31=47", "W31=07", "slave.stage=2"},
+    {1, "W30=10 W31=47", "W31=07", "slave.stage=3"},
+    {1, "W30=13 W31=47", "W31=02", "slave.stage=3 slave.sfi=1"},
+    {1, "W30=13 W31=47", "W31=01", "slave.stage=3 slave.vector=1"},
+    {1, "W30=12 W31=47", "W30=80", "slave.rotation=1"},
+    {1, "W30=12 W31=47", "W30=0B", "slave.showsisr=1"},
+    {1, "W30=12 W31=47", "L3=25", "slave.edges=25 slaveintp=25"},
+    {1, "", "L3=25", "slaveintp=25"},
+    {1, "W30=12 W31=47", "W31=5A", "slave.imr=5A"},
+    {1, "W30=12 W31=47", "W30=C3", "slave.lowest=3"},
+    {1, "W00=12 W01=47 W30=12 W31=47", "L3=25", "icu.edges=80 slave.edges=25 slaveintp=25"},
+    {1, "W00=12 W01=47 W30=12 W31=47 L3=25", "K", "icu.edges=0 icu.isr=80"},
+    {1, "W00=10 W01=47 W01=80 W30=10 W31=47 W31=07 L3=24", "K", "icu.edges=0 icu.isr=80 slave.edges=20 slave.isr=4"},
+    {1, "W00=10 W01=47 W01=80 W30=10 W31=47 W31=07 L0=80", "K", "icu.edges=0 icu.isr=80"},
     {3, "", "M30", "timer.counters[#].mode=0 timer.counters[#].format=3"},
     {3, "", "M34", "timer.counters[#].mode=2 timer.counters[#].format=3 timer.counters[#].out=1"},
     {3, "M34", "W1#=34", "timer.counters[#].half=1 timer.counters[#].low=34"},
@@ -224,28 +246,28 @@ static void try_pair(const struct pair *p, int index)
         }
 }
 
-/* How far two runs over different fillings agree: one past the last byte that the library wrote. */
-static void extent(const char *what, const unsigned char *x, const unsigned char *y, unsigned long size)
+/* How far two runs over different fillings agree: one past the last byte that the library wrote. It may leave the padding at the end of a struct. */
+static void extent(const char *what, const unsigned char *x, const unsigned char *y, unsigned long used, unsigned long size)
 {
     unsigned long end = 512;
     while (end > 0 && x[end - 1] == 0xA5 && y[end - 1] == 0x5A)
         end--;
-    if (end != size)
-        printf("layout: %s: the library wrote %lu bytes, the header has %lu\n", what, end, size), wrong++;
+    if (end < used || end > size)
+        printf("layout: %s: the library wrote %lu bytes, the header has %lu to %lu\n", what, end, used, size), wrong++;
 }
 
 static void try_sizes(void)
 {
     static unsigned char x[512] __attribute__((aligned(16))), y[512] __attribute__((aligned(16)));
     unsigned char tape[21] = {0}, answers[32], memory[1];
+    struct limbusagin_board b = limbusagin_fresh();
     memset(x, 0xA5, sizeof x), memset(y, 0x5A, sizeof y);
     raw_fresh(x), raw_fresh(y);
-    extent("a fresh board", x, y, sizeof(struct limbusagin_board));
+    extent("a fresh board", x, y, sizeof b, sizeof b);
     memset(x, 0xA5, sizeof x), memset(y, 0x5A, sizeof y);
-    struct limbusagin_board b = limbusagin_fresh();
     raw_feed(x, b, tape, 21, memory, 0, answers, 32), raw_feed(y, b, tape, 21, memory, 0, answers, 32);
-    extent("what a call gives back", x, y, sizeof(struct limbusagin_fed));
-    /* The last length lies behind the board among the arguments: a board of another size would move it. */
+    extent("what a call gives back", x, y, __builtin_offsetof(struct limbusagin_fed, board) + sizeof b, sizeof(struct limbusagin_fed));
+    /* The last length lies behind the board among the arguments: a board of eight bytes more or less would move it. */
     struct limbusagin_fed fed = limbusagin_feed(b, tape, 21, memory, 0, answers, 32);
     if (fed.status != 0 || fed.records != 2 || fed.board.kept.length != 5)
         printf("layout: 21 bytes with room for 2 answers: status %d, %lu records\n", fed.status, fed.records), wrong++;
@@ -256,6 +278,11 @@ static void try_sizes(void)
     fed = limbusagin_feed(b, tape, 0, memory, 0, answers, 0);
     if (fed.status != 7 || fed.board.dma.ends != 16)
         printf("layout: a board with end bits 10H: status %d, end bits %XH\n", fed.status, fed.board.dma.ends), wrong++;
+    b = limbusagin_fresh();
+    b.slave.lowest = 8;
+    fed = limbusagin_feed(b, tape, 0, memory, 0, answers, 0);
+    if (fed.status != 7 || fed.board.slave.lowest != 8)
+        printf("layout: a board with the slave's lowest level 8: status %d, lowest level %d\n", fed.status, fed.board.slave.lowest), wrong++;
 }
 
 int main(int words, char **word)

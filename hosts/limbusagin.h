@@ -31,16 +31,16 @@ typedef unsigned int limbusagin_u32;
 typedef unsigned long limbusagin_size;
 
 /* The version of these declarations. A host compares it with what limbusagin_version() answers. */
-#define LIMBUSAGIN_VERSION 2u
+#define LIMBUSAGIN_VERSION 3u
 
 /* Bytes of a record and of its answer. A call that completes k records needs room for 16 * k bytes of answers. */
 #define LIMBUSAGIN_RECORD 8u
 #define LIMBUSAGIN_ANSWER 16u
 
-/* The interrupt chip, 71059. */
+/* An interrupt chip, 71059: the master, or the slave on its line 7. */
 struct limbusagin_icu {
-    limbusagin_u8 stage;       /* 0 no IW1 yet, 1 awaits IW2, 2 awaits IW4, 3 ready */
-    limbusagin_u8 iw1;         /* IW1 as written, 0 before the first */
+    limbusagin_u8 stage;       /* 0 no IW1 yet, 1 awaits IW2, 4 awaits IW3, 2 awaits IW4, 3 ready */
+    limbusagin_u8 iw1;         /* IW1 as written (D4 is set), 0 before the first */
     limbusagin_u8 iw2;
     limbusagin_bool sfi;       /* IW4: self-FI */
     limbusagin_bool vector;    /* IW4: vector mode, not CALL */
@@ -109,8 +109,10 @@ struct limbusagin_kept {
 };
 
 struct limbusagin_board {
-    struct limbusagin_icu icu;
-    limbusagin_u8 intp;        /* the levels of INTP1 to INTP7; bit 0 is clear, for INTP0 is OUT0 */
+    struct limbusagin_icu icu; /* the master, at ports 00H and 01H */
+    limbusagin_u8 intp;        /* the levels of INTP1 to INTP7; bit 0 is clear, for INTP0 is OUT0 (line 7 is INTP7 or the slave's INT) */
+    struct limbusagin_icu slave; /* at ports 30H and 31H */
+    limbusagin_u8 slaveintp;   /* the levels of the slave's eight lines */
     struct limbusagin_timer timer;
     struct limbusagin_dma dma;
     struct limbusagin_kept kept;
@@ -131,8 +133,8 @@ LIMBUSAGIN_ASSERT(sizeof(struct limbusagin_icu) == 11);
 LIMBUSAGIN_ASSERT(sizeof(struct limbusagin_counter) == 18);
 LIMBUSAGIN_ASSERT(sizeof(struct limbusagin_channel) == 20);
 LIMBUSAGIN_ASSERT(sizeof(struct limbusagin_dma) == 92);
-LIMBUSAGIN_ASSERT(sizeof(struct limbusagin_board) == 168);
-LIMBUSAGIN_ASSERT(sizeof(struct limbusagin_fed) == 184);
+LIMBUSAGIN_ASSERT(sizeof(struct limbusagin_board) == 180);
+LIMBUSAGIN_ASSERT(sizeof(struct limbusagin_fed) == 200);
 
 /* The version of the library: LIMBUSAGIN_VERSION, or it and this header are not of one kind and the host has to be built anew. */
 limbusagin_u32 limbusagin_version(void);

@@ -23,19 +23,19 @@
 use core::fmt;
 
 /// The version of these declarations. [`version`] answers the library's.
-pub const VERSION: u32 = 2;
+pub const VERSION: u32 = 3;
 /// Bytes of a record.
 pub const RECORD: usize = 8;
 /// Bytes of an answer.
 pub const ANSWER: usize = 16;
 
-/// The interrupt chip, 71059.
+/// An interrupt chip, 71059: the master, or the slave on its line 7.
 #[repr(C)]
 #[derive(Clone, Copy, Debug, PartialEq, Eq)]
 pub struct Icu {
-    /// 0 no IW1 yet, 1 awaits IW2, 2 awaits IW4, 3 ready
+    /// 0 no IW1 yet, 1 awaits IW2, 4 awaits IW3, 2 awaits IW4, 3 ready
     pub stage: u8,
-    /// IW1 as written, 0 before the first
+    /// IW1 as written (D4 is set), 0 before the first
     pub iw1: u8,
     pub iw2: u8,
     /// IW4: self-FI
@@ -149,9 +149,14 @@ pub struct Kept {
 #[repr(C)]
 #[derive(Clone, Copy, Debug, PartialEq, Eq)]
 pub struct Board {
+    /// the master, at ports 00H and 01H
     pub icu: Icu,
-    /// the levels of INTP1 to INTP7; bit 0 is clear, for INTP0 is OUT0
+    /// the levels of INTP1 to INTP7; bit 0 is clear, for INTP0 is OUT0 (line 7 is INTP7 or the slave's INT)
     pub intp: u8,
+    /// at ports 30H and 31H
+    pub slave: Icu,
+    /// the levels of the slave's eight lines
+    pub slaveintp: u8,
     pub timer: Timer,
     pub dma: Dma,
     pub kept: Kept,
@@ -183,8 +188,8 @@ const _: () = {
     assert!(size_of::<Counter>() == 18);
     assert!(size_of::<Channel>() == 20);
     assert!(size_of::<Dma>() == 92);
-    assert!(size_of::<Board>() == 168);
-    assert!(size_of::<Fed>() == 184);
+    assert!(size_of::<Board>() == 180);
+    assert!(size_of::<Fed>() == 200);
 };
 
 mod library {

@@ -97,6 +97,54 @@ def requests(seed, n):
     return b"".join(out)
 
 
+def slave(seed, n):
+    """Two interrupt chips: both extended, in vector and in CALL mode, and the other ways to set them up; lines of both, finish commands, acknowledges."""
+    r = random.Random(seed)
+    out = []
+    lines = slaves = 0
+
+    def words(port, iw1, iw4):
+        iw3 = 0x07 if port else 0x80
+        return ([record(1, port, iw1), record(1, port + 1, r.randrange(256))]
+                + ([record(1, port + 1, iw3 ^ 1), record(1, port + 1, iw3)] if iw1 & 2 == 0 else [])
+                + ([record(1, port + 1, iw4)] if iw1 & 1 else []))
+
+    # (IW1, IW4) of the master and of the slave; the last three are refused at an acknowledge
+    ways = [((0x11, 1), (0x11, 1)), ((0x10, 0), (0xF4, 0)), ((0x11, 3), (0x19, 1)), ((0x19, 1), (0x11, 3)), ((0x19, 1), (0x19, 1)),
+            ((0x13, 1), (0x13, 1)), ((0x11, 1), (0x10, 0)), ((0x11, 1), (0x13, 1)), ((0x13, 1), (0x11, 1))]
+    for i in range(n):
+        k = r.randrange(32)
+        port = r.choice([0x00, 0x30])
+        if i % 400 == 0:
+            master, other = ways[i // 400 % len(ways)]
+            out += words(0x00, *master) + words(0x30, *other)
+        elif k == 0:
+            out.append(record(1, port + 1, r.choice([0, 0, 0, 1 << r.randrange(8)])))
+        elif k == 1:
+            out.append(record(1, port, r.choice([0x80, 0xC0 | r.randrange(8)])))
+        elif k == 2:
+            out.append(record(1, port, r.choice([0x0A, 0x0B])))
+        elif k in (3, 4):
+            out.append(record(2, port + r.choice([0, 0, 0, 1])))
+        elif k == 5:
+            out.append(record(1, 0x13, 0x10 | r.randrange(6) << 1))
+        elif k == 6:
+            out.append(advance(r.randrange(6)))
+        elif k < 14:
+            out.append(record(1, port, r.choice([0x20, 0x20, 0x60, 0xA0, 0xE0]) | r.randrange(8)))
+        elif k < 17:
+            out += [record(1, 0x30, 0x20), record(1, 0x00, 0x20)]
+        elif k < 20:
+            lines ^= r.choice([0x80, 2 << r.randrange(7)])
+            out.append(record(3, 0, lines))
+        elif k < 25:
+            out.append(record(4))
+        else:
+            slaves ^= 1 << r.randrange(8)
+            out.append(record(3, 3, slaves))
+    return b"".join(out)
+
+
 def main(folder):
     os.makedirs(folder, exist_ok=True)
     r = random.Random(71)
@@ -119,6 +167,7 @@ def main(folder):
                 + b"".join(advance(1) + b"".join(record(2, 0x10 + c) for c in range(3)) for _ in range(20))
                 + advance(65535) + record(4) + record(1, 0x00, 0x20) for mode in range(6)), 0),
         "requests": (requests(5, 10000), 0),
+        "slave": (slave(6, 14400), 0),
         "block": (
             record(1, 0x2A, 0x84) + record(1, 0x23, 0x10) + record(1, 0x2F, 0x0E) + record(3, 2, 1)
             + b"".join(record(6, 0, i & 255) for i in range(4100)), 4000),
