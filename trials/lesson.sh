@@ -112,7 +112,7 @@ trial_lesson_lessons() { # the lessons of the class run, and go to a tape and ba
     status_is 0
     silent
     expect 'titles' "$(echo "$lessons"/*.lesson)" "$(grep '[.]lesson$' out | tr '\n' ' ' | sed 's/ $//')"
-    for lesson in status tour; do
+    for lesson in slave status tour; do
         start lesson assemble "$lessons/$lesson.lesson"
         status_is 0
         cp out t
@@ -545,6 +545,43 @@ trial_lesson_int_low() { # an acknowledge with INT low is answered as level 7, b
     start lesson explain answers
     status_is 0
     row_says 'vector 47 5: this board never gives it'
+}
+
+trial_lesson_slave() { # the slave's lines and ports go to a tape and back; an acknowledge says what the slave gives, or why nothing, or how the two chips differ; a wrong IW3 is refused, and the row has the right one
+    printf 'slave 08\nslave FF\nwrite 30 11\nread 31\n' >b.lesson
+    printf '\003\003\010\0\0\0\0\0\003\003\377\0\0\0\0\0\001\060\021\0\0\0\0\0\002\061\0\0\0\0\0\0' >t
+    start lesson assemble b.lesson
+    status_is 0
+    wrote t
+    start lesson list t
+    status_is 0
+    wrote b.lesson
+    low="vector 3F: level 7, but the slave's INT is low"
+    while IFS='|' read -r records row; do
+        # shellcheck disable=SC2059
+        { printf 'write %s\n' '00 11' '01 40' '01 80' '01 01' '30 11' '31 38' '31 07' '31 01'; printf "$records"; echo acknowledge; } >x
+        start lesson x
+        status_is 0
+        row_says "$row"
+        awk 'length > 80 { exit 1 }' out || wrong 'columns of a row' '80 at the most' "$(awk 'length > 80' out)"
+    done <<END
+slave 20\n|vector 3D: level 7, and the slave gives its level 5
+slave 20\nslave 00\n|vector 47: INT is low, no level asks; answered as level 7
+intp 80\n|$low, no level asks; answered as its level 7
+write 31 08\nslave 08\nintp 80\n|$low, every level that asks is masked; answered as its level 7
+slave 08\nacknowledge\nwrite 00 20\nslave 48\nintp 80\n|$low, level 3 is in service and not outranked; answered as its level 7
+write 30 11\n|3: out of turn, the master is extended, and the slave waits for IW2 at port 31
+write 30 11\nwrite 31 38\n|3: out of turn, the master is extended, and the slave waits for IW3 at port 31
+write 30 13\nwrite 31 38\nwrite 31 01\n|3: out of turn, the master is extended and the slave is single
+write 00 13\nwrite 01 40\nwrite 01 01\n|3: out of turn, the master is single and the slave is extended
+write 30 10\nwrite 31 38\nwrite 31 07\n|3: out of turn, the master is in vector mode and the slave in CALL mode
+write 00 11\nwrite 01 40\nwrite 01 07\n|4: not built, a slave on any line but 7; IW3 must be 80 here
+write 30 11\nwrite 31 38\nwrite 31 80\n|4: not built, a slave on any line but 7; IW3 must be 07 here
+END
+    # line 7 of a single master is a line like others, whoever raises it
+    printf 'write 00 13\nwrite 01 40\nwrite 01 01\nwrite 30 13\nwrite 31 38\nwrite 31 01\nslave 20\nacknowledge\n' >x
+    start lesson x
+    grep -q 'acknowledge  *vector 47  *000' out || wrong 'the row' 'vector 47, and no more' "$(tail -n 3 out)"
 }
 
 trial_lesson_readme() { # README.md prints what its first lesson prints, and has every lesson, in the order of their numbers

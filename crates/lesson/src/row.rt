@@ -1,5 +1,6 @@
 // What the board has to do with a row: the facts of the board, as it is before the record, that choose the sentences.
 use board::Board;
+use icu::Icu;
 use timer::Counter;
 use words::answered;
 use words::asked;
@@ -21,12 +22,26 @@ fn facts_of(board: Board, r: [u8; 8]) -> [u8; 16] {
     let t = board.timer;
     let k = (r[1] % 4 % 3) as usize;
     let c = t.counters[k];
-    let i = board.icu;
+    let slave = is_slave(r[1]);
+    let i = chip(board, slave);
     let mut f = sentences::facts(r, d.selected, d.base as u8, 0, c.latched as u8);
     f[10] = asked::place(r[0], c.format, c.half, c.second);
     f[12] = i.stage;
     f[13] = i.showsisr as u8;
+    f[14] = slave as u8;
     f
+}
+
+// Whether a port is the slave's; past 31 there are none.
+fn is_slave(port: u8) -> bool {
+    0x2f < port
+}
+
+fn chip(board: Board, slave: bool) -> Icu {
+    if slave {
+        return board.slave;
+    }
+    board.icu
 }
 
 // The answer to a record, and for a refusal a sentence that helps.
@@ -42,25 +57,28 @@ pub fn answered(board: Board, r: [u8; 8], a: [u8; 16]) -> Text {
     done
 }
 
-// With INT low an acknowledge is answered as level 7, and the row says why INT is low.
+// The bytes of an acknowledge, and what there is to say of them: that the slave gave them, and of either chip why its INT is low.
 fn acknowledged(board: Board, bytes: Text) -> Text {
     let i = board.icu;
+    let s = board.slave;
     let lines = lines_of(board);
-    if i.int(lines) {
-        return bytes;
+    if cascade::is_passed_on(i, lines, s) {
+        let more = answered::remark(s, board.slaveintp, 1);
+        return bytes.part(more, 0, more.n);
     }
-    let why = answered::why_low(i.irr(lines), i.asked(lines), icu::highest(i.isr, i.lowest));
-    bytes.part(why, 0, why.n)
+    let more = answered::remark(i, lines, 0);
+    bytes.part(more, 0, more.n)
 }
 
-// The interrupt chip's eight lines: INTP1 to INTP7, and OUT0 as line 0.
+// The master's eight lines: INTP1 to INTP7 with the slave's INT on line 7, and OUT0 as line 0.
 fn lines_of(board: Board) -> u8 {
     let t = board.timer;
     let c = t.counters[0];
+    let intp = cascade::join(board.intp, board.slave, board.slaveintp);
     if c.out {
-        return bits::with(board.intp, 0);
+        return bits::with(intp, 0);
     }
-    board.intp
+    intp
 }
 
 const VERIFIED: u8 = 0x09;
@@ -99,9 +117,28 @@ pub fn written(board: Board, a: [u8; 16]) -> u32 {
 // Why a record was refused, worked out from the record and the board before it.
 fn refusal(board: Board, r: [u8; 8], status: u8) -> Text {
     let d = board.dma;
-    let i = board.icu;
-    let f = sentences::facts(r, status, d.channel, has_two_bytes(board, r[1]) as u8, 0);
-    sentences::refused(answered::reason(status, f, i.stage), f)
+    let m = board.icu;
+    // an acknowledge that a ready master refuses is the slave's fault, or that of both
+    let needed = r[0] == 4 && m.stage == Icu::READY;
+    let slave = needed || is_slave(r[1]);
+    let i = chip(board, slave);
+    let mut f = sentences::facts(
+        r,
+        status,
+        d.channel,
+        has_two_bytes(board, r[1]) as u8,
+        i.stage,
+    );
+    f[12] = slave as u8;
+    f[13] = set_up(m);
+    f[14] = set_up(board.slave);
+    f[15] = needed as u8;
+    sentences::refused(answered::reason(f), f)
+}
+
+// How an interrupt chip is set up: bit 0 vector mode, bit 1 single.
+fn set_up(i: Icu) -> u8 {
+    i.iw1 & 2 | i.vector as u8
 }
 
 // Whether the count of a port's counter is written in two bytes.

@@ -1,4 +1,5 @@
-// Which sentence says what an answer is, of a refusal why, and of an acknowledge why INT is low.
+// Which sentence says what an answer is, of a refusal why, and of an acknowledge which chip gave it and why INT is low.
+use super::asked;
 use super::notation;
 use super::sentences;
 use super::text::Text;
@@ -24,10 +25,10 @@ fn capped(x: u8) -> u8 {
     7
 }
 
-// What was done. `kind` is byte 4: the first byte of a CALL, or what a DMA cycle came to. The byte at port 00 is a register with a bit for each level.
+// What was done. `kind` is byte 4: the first byte of a CALL, or what a DMA cycle came to. The byte at port 00, or 30 of the slave, is a register with a bit for each level.
 pub fn done(op: u8, kind: u8, unit: u8, port: u8) -> u8 {
     match op {
-        2 => match port {
+        2 => match asked::master_port(port) {
             0 => 0x02,
             _ => 0x01,
         },
@@ -46,11 +47,17 @@ pub fn done(op: u8, kind: u8, unit: u8, port: u8) -> u8 {
     }
 }
 
-// What follows the bytes of an acknowledge with INT low. `asked` is IRR without what is masked, `served` the highest level in service.
-pub fn why_low(irr: u8, asked: u8, served: u8) -> Text {
+// What follows the bytes of an acknowledge, by the chip that gave them and its lines. `slave` is 1 where that is the slave.
+pub fn remark(chip: Icu, lines: u8, slave: u8) -> Text {
     let mut f = [0u8; 16];
-    f[12] = cause_of_low(irr, asked);
-    f[13] = served;
+    let asking = chip.asked(lines);
+    f[14] = slave;
+    if chip.int(lines) {
+        f[12] = icu::highest(asking, chip.lowest);
+        return sentences::answered(0x0e, f);
+    }
+    f[12] = cause_of_low(chip.irr(lines), asking);
+    f[13] = icu::highest(chip.isr, chip.lowest);
     sentences::answered(0x0d, f)
 }
 
@@ -86,12 +93,17 @@ fn end(last: u8, free: u8) -> u8 {
     0
 }
 
-pub fn reason(status: u8, r: [u8; 16], stage: u8) -> u8 {
-    match status {
+// By the facts of a refusal.
+pub fn reason(f: [u8; 16]) -> u8 {
+    match f[8] {
         1 => 0x10,
-        2 => malformed(r[0], r[1], r[2], notation::is_zero_later(r), r[6] | r[7]),
-        3 => early(r[0], r[1], unready(stage)),
-        4 => unbuilt(r[1], r[2]),
+        2 => malformed(f[0], f[1], f[2], notation::is_zero_later(f), f[6] | f[7]),
+        3 => early(
+            f[0],
+            asked::master_port(f[1]),
+            unready(f[11], f[13] ^ f[14]),
+        ),
+        4 => unbuilt(asked::master_port(f[1]), f[2]),
         _ => 0x60,
     }
 }
@@ -158,24 +170,25 @@ fn early(op: u8, port: u8, icu: u8) -> u8 {
     }
 }
 
-fn unready(stage: u8) -> u8 {
-    match stage {
-        Icu::AWAITS_IW2 => 0x32,
-        Icu::AWAITS_IW4 => 0x33,
-        _ => 0x31,
+// An interrupt chip that awaits a word, or two that are ready and not set up alike; `apart` has the bits in which they differ.
+fn unready(stage: u8, apart: u8) -> u8 {
+    if stage == Icu::READY {
+        return match apart / 2 {
+            0 => 0x33,
+            _ => 0x32,
+        };
     }
+    0x31
 }
 
 // Status 4: what the board leaves out, by port and byte.
 fn unbuilt(port: u8, x: u8) -> u8 {
     match port {
-        0x00 => match x / 4 % 8 {
+        0x00 => match x / 4 % 2 {
             0 => 0x42,
-            2 => 0x42,
-            1 => 0x41,
-            3 => 0x41,
-            _ => 0x40,
+            _ => 0x41,
         },
+        0x01 => 0x40,
         0x13 => match x / 64 {
             3 => 0x43,
             _ => 0x44,

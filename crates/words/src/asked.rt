@@ -4,13 +4,18 @@
 pub fn sentence(f: [u8; 16]) -> u8 {
     match f[0] {
         0 => 0x13,
-        1 => write(f[1], f[2], f[12]),
-        2 => read(f[1]),
+        1 => write(master_port(f[1]), f[2], f[12]),
+        2 => read(master_port(f[1])),
         3 => 0x15,
         4 => 0x14,
         5 => advance(f[4], f[5]),
         _ => 0x12,
     }
+}
+
+// The slave's ports, 30 and 31, stand for the master's, which take the same words; any other stands for itself.
+pub fn master_port(port: u8) -> u8 {
+    port % 0x30
 }
 
 // Which byte of a count is written or read.
@@ -40,7 +45,7 @@ fn advance(low: u8, high: u8) -> u8 {
     0x10
 }
 
-// By port: the interrupt chip, whose next word depends on what it awaits, the timer, the DMA chip.
+// By port: an interrupt chip, whose next word depends on what it awaits, the timer, the DMA chip.
 fn write(port: u8, x: u8, stage: u8) -> u8 {
     match port {
         0x00 => match x / 8 % 4 {
@@ -48,7 +53,7 @@ fn write(port: u8, x: u8, stage: u8) -> u8 {
             1 => 0x21,
             _ => 0x20,
         },
-        0x01 => 0x24 + stage % 4,
+        0x01 => 0x24 + stage % 5,
         0x10 => 0x34,
         0x11 => 0x34,
         0x12 => 0x34,
@@ -77,8 +82,8 @@ fn write(port: u8, x: u8, stage: u8) -> u8 {
 
 fn read(port: u8) -> u8 {
     match port {
-        0x00 => 0x28,
-        0x01 => 0x29,
+        0x00 => 0x29,
+        0x01 => 0x2a,
         0x10 => 0x35,
         0x11 => 0x35,
         0x12 => 0x35,

@@ -437,18 +437,18 @@ fn make_form(op: u8, group: u8, from: usize, to: usize, expected: u8) -> Form {
 // The words that a line can have, by number.
 fn verb(line: &[u8], start: usize, end: usize) -> u8 {
     which(
-        b"write read intp gates requests reset acknowledge raw advance cycle end ",
+        b"write read intp gates requests slave reset acknowledge raw advance cycle end ",
         line,
         start,
         end,
     )
 }
 
-const ADVANCE: u8 = 8;
+const ADVANCE: u8 = 9;
 
-const CYCLE: u8 = 9;
+const CYCLE: u8 = 10;
 
-const THE_END: u8 = 10;
+const THE_END: u8 = 11;
 
 // The form of the verbs before these.
 fn form_of(verb: u8) -> Form {
@@ -458,8 +458,9 @@ fn form_of(verb: u8) -> Form {
         2 => make_form(3, 0, 2, 3, LEVELS),
         3 => make_form(3, 1, 2, 3, LEVELS),
         4 => make_form(3, 2, 2, 3, LEVELS),
-        5 => make_form(0, 0, 0, 0, NOTHING),
-        6 => make_form(4, 0, 0, 0, NOTHING),
+        5 => make_form(3, 3, 2, 3, LEVELS),
+        6 => make_form(0, 0, 0, 0, NOTHING),
+        7 => make_form(4, 0, 0, 0, NOTHING),
         _ => make_form(0, 0, 0, 8, RAW),
     }
 }
@@ -574,6 +575,7 @@ fn short_sentence(op: u8, x: u8, y: u8) -> u8 {
             0 => 0x03,
             1 => 0x04,
             2 => 0x05,
+            3 => 0x0d,
             _ => 0x00,
         },
         4 => match x | y {

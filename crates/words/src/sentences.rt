@@ -17,8 +17,8 @@ use libc::STDERR_FILENO;
 use libc::STDOUT_FILENO;
 
 // A record in the notation, and below it what a record asks for, in the chips' own words. The facts: 0 to 7 are the record, 8 the DMA channel that is
-// selected, 9 whether its base is, A the byte of a count (1 the low one, 2 the high one), B whether the count is latched, C what the interrupt chip awaits,
-// D whether it shows its ISR.
+// selected, 9 whether its base is, A the byte of a count (1 the low one, 2 the high one), B whether the count is latched. Of the port's interrupt chip C is what
+// it awaits, D whether it shows its ISR, E whether it is the slave.
 pub fn asked(n: u8, facts: [u8; 16]) -> Text {
     fill(
         b"
@@ -35,23 +35,25 @@ pub fn asked(n: u8, facts: [u8; 16]) -> Text {
 0A reset
 0B acknowledge
 0C $0 $1 $2 $3 $4 $5 $6 $7
+0D slave $2
 
 10 =4 pulses
 11 1 pulse
 12 DMA cycle, device has $2{101|, END}
 13 reset
 14 interrupt acknowledge
-15 {102INTP lines|gates|DMA requests}: $2 (high:*208)
+15 {102INTP lines|gates|DMA requests|slave lines}: $2 (high:*208)
 
-20 IW1: $2 ({231edge|level}, {201no IW4|IW4 follows})
-21 MCW{203|| read IRR| read ISR| poll| poll| poll| poll}: $2
-22 PFCW {253rotation in self-FI off|finish|no operation|finish level %203|rotation in self-FI on|finish and rotate|level %203 lowest|finish level %203, make it lowest}: $2
-24 IW2 or IMR: $2
-25 IW2: $2
-26 IW4: $2 ({201CALL|vector}{211|, self-FI})
-27 IMR: $2 (masked:*208)
-28 read {D01IRR|ISR}
-29 read IMR
+20 {E01|slave }IW1: $2 ({231edge|level}, {211extended, }{201no IW4|IW4 follows})
+21 {E01|slave }MCW{203|| read IRR| read ISR| poll| poll| poll| poll}: $2
+22 {E01|slave }PFCW {253rotation in self-FI off|finish|no operation|finish level %203|rotation in self-FI on|finish and rotate|level %203 lowest|finish level %203, make it lowest}: $2
+24 {E01|slave }IW2 or IMR: $2
+25 {E01|slave }IW2: $2
+26 {E01|slave }IW4: $2 ({201CALL|vector}{211|, self-FI})
+27 {E01|slave }IMR: $2 (masked:*208)
+28 {E01|slave }IW3: $2
+29 {E01|slave }read {D01IRR|ISR}
+2A {E01|slave }read IMR
 
 30 multiple latch: $2
 31 counter %262 control: $2 (latch)
@@ -81,7 +83,8 @@ pub fn asked(n: u8, facts: [u8; 16]) -> Text {
 }
 
 // What was done, and the operation that an answer is to. The facts are the answer; of a unit C says how it ended (1 with its service, 2 as that and as
-// the last one), D whether it is past the memory. 0D follows the bytes of an acknowledge with INT low: C says why it is low, D the highest level in service.
+// the last one), D whether it is past the memory. 0D and 0E follow the bytes of an acknowledge, with the INT of the chip that answers low or high: E says whether
+// that is the slave, C why its INT is low or the level that it gives, D its highest level in service.
 pub fn answered(n: u8, facts: [u8; 16]) -> Text {
     fill(
         b"
@@ -98,7 +101,8 @@ pub fn answered(n: u8, facts: [u8; 16]) -> Text {
 0A channel %508: $2 to memory @8{D01| (past the memory, lost)}{C02|, bus free|, end, bus free}
 0B channel %508: $2 from memory @8{D01| (past the memory)}{C02|, bus free|, end, bus free}
 0C channel %508: $2 at @8{C02|, bus free|, end, bus free}
-0D : INT is low, {C02no level asks|every level that asks is masked|level %D08 is in service and not outranked}; answered as level 7
+0D :{E01| level 7, but the slave's} INT is low, {C02no level asks|every level that asks is masked|level %D08 is in service and not outranked}; answered as {E01|its }level 7
+0E {E01|: level 7, and the slave gives its level %C08}
 
 10 reset
 11 write
@@ -125,7 +129,8 @@ pub fn answered(n: u8, facts: [u8; 16]) -> Text {
 }
 
 // Why a record was refused. The facts: 0 to 7 are the record, 8 the status, 9 the DMA channel that has the bus, A whether the count that is written has
-// two bytes.
+// two bytes. B is what the interrupt chip at fault awaits, C whether that is the slave, F whether the master needs it for an acknowledge. D is how the master is set
+// up, E how the slave is: bit 0 vector mode, bit 1 single.
 pub fn refused(n: u8, facts: [u8; 16]) -> Text {
     fill(
         b"
@@ -147,15 +152,15 @@ pub fn refused(n: u8, facts: [u8; 16]) -> Text {
 2D 2: INTP0 is wired to OUT0; a tape sets INTP1 to INTP7, bits 1 to 7
 2E 2: there are three gates, bits 0 to 2
 2F 2: there are four DMA requests, bits 0 to 3
-30 2: there is no group $1 of lines; they go from 00 to 02
+30 2: there is no group $1 of lines; they go from 00 to 03
 
-31 3: out of turn, the interrupt chip waits for IW1 at port 00
-32 3: out of turn, the interrupt chip waits for IW2 at port 01
-33 3: out of turn, the interrupt chip waits for IW4 at port 01
+31 3: out of turn, {F01|the master is extended, and }the {C01interrupt chip|slave} waits for {B03IW1|IW2|IW4||IW3} at port {C010|3}{B030|1|1||1}
+32 3: out of turn, the master is {D11extended|single} and the slave is {E11extended|single}
+33 3: out of turn, the master is in {D01CALL|vector} mode and the slave in {E01CALL|vector} mode
 34 3: out of turn, counter %262 has no mode yet
 35 3: out of turn, counter %102 has no mode yet
 
-40 4: not built, slave interrupt chips; IW1 has D1 set here
+40 4: not built, a slave on any line but 7; IW3 must be {C0180|07} here
 41 4: not built, polling
 42 4: not built, the exceptional nesting mode
 43 4: not built, the multiple latch; there are counters 0 to 2
@@ -181,7 +186,7 @@ pub fn refused(n: u8, facts: [u8; 16]) -> Text {
 pub fn bad_line(n: u8, line: u64, column: u64, found: [u8; 8]) -> Text {
     fill(
         b"
-00 :&0:&1: expected reset, write, read, intp, gates, requests, acknowledge, advance, cycle, raw or a # comment
+00 :&0:&1: expected reset, write, read, intp, slave, gates, requests, acknowledge, advance, cycle, raw or a # comment
 01 :&0:&1: expected a port, one or two hexadecimal digits
 02 :&0:&1: expected the byte to write, one or two hexadecimal digits
 03 :&0:&1: expected the levels, one or two hexadecimal digits
