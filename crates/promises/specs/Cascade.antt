@@ -27,7 +27,7 @@ use Rattle.promises.specs.Table.{extended, unanswered}
 use Rattle.promises.specs.Meant.{Names, Outranking}
 use Rattle.promises.specs.OneChip.{One, freshOne, namesSlave, startsExtended, afterOne}
 
--- The slave's INT; what is requested of it, asked for and in service, by its own lines and registers.
+-- The slave's INT; what is requested of it and asked for, by its own lines and registers.
 abbrev pub slaveInt : Board → Bool
 slaveInt b = intOf (b .slave) (b .slaveintp)
 
