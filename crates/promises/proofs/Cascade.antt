@@ -41,7 +41,7 @@ use Rattle.promises.proofs.Logic.{both-left, both-right, or-false, T-tr
 use Rattle.promises.proofs.BoardKept.{reached-held}
 use Rattle.promises.proofs.Sizes.{Sized, served-small, joined-small, lines-small, reached-keeps}
 use Rattle.promises.proofs.Advances.{advance-board}
-use Rattle.promises.proofs.Requested.{Fit, reached-fit, line-bit, joined-line, asked-bit, masked-bit, int-by-rank, edged, edge-bit, unready-lines, level-lines}
+use Rattle.promises.proofs.Requested.{Fit, reached-fit, line-bit, joined-line, asked-bit, masked-bit, int-by-rank, edged, same-edge, edge-bit, unready-lines, level-lines}
 use Rattle.promises.proofs.SetUps.{in-turn, both-answer, passed-by, passes}
 use Rattle.promises.proofs.Taken.{told-high, told-low, named-icu, acknowledged, served-edges, served-isr, served-lowest, named-so, highest-taken, takes-highest, highest-asked, memory-left}
 use Rattle.promises.proofs.Withdrawn.{reached-backed}
@@ -66,13 +66,6 @@ lines-leave c was now =
     either (λ (d : Icu). d ≡ edges-is (d .edges) c) (ready c)
     (λ _. either (λ (d : Icu). d ≡ edges-is (d .edges) c) (lev c) (λ _. refl) (λ _. refl))
     (λ _. refl)
-
--- A line that stays leaves its request.
-same-edge : (v p : Bool) → edged v p p ≡ v
-same-edge true true = refl
-same-edge true false = refl
-same-edge false true = refl
-same-edge false false = refl
 
 -- The request of level k once the lines went from some levels to others.
 module _ (c : Icu) (was now k : ℕ) (hw : was < 256) (hn : now < 256) (low : k < 8) where

@@ -43,7 +43,7 @@ use Rattle.promises.proofs.Counters.{reads-out}
 use Rattle.promises.proofs.Plain.{no-bit}
 use Rattle.promises.proofs.Sizes.{lines-by-small, joined-small, lines-small}
 use Rattle.promises.proofs.Advances.{alone, few-rises, reported}
-use Rattle.promises.proofs.Requested.{Fit, line-by, line-bit, joined-line, irr-bit, edged, stage-stays, trigger-stays, edge-bit, unready-lines, level-lines}
+use Rattle.promises.proofs.Requested.{Fit, line-by, line-bit, joined-line, irr-bit, edged, same-edge, stage-stays, trigger-stays, edge-bit, unready-lines, level-lines}
 use Rattle.promises.proofs.SetUps.{both-answer, passed-by}
 use Rattle.promises.proofs.Taken.{named-icu, named-status, highest-asked, answers-ready, served-edges}
 
@@ -532,12 +532,6 @@ module _ (b : Board) (k : ℕ) (low : k < 8) (fit : Fit b) (is-backed : Backed b
         no-edge true true h = refl
         no-edge true false h = refl
         no-edge false q h = absurd (false≢true h)
-
-        same-edge : (v p : Bool) → edged v p p ≡ v
-        same-edge true true = refl
-        same-edge true false = refl
-        same-edge false true = refl
-        same-edge false false = refl
 
         -- Of the other lines none moves.
         same-line : k ≢ 7 → lineHigh d-7 k ≡ lineHigh b k

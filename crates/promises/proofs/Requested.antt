@@ -220,6 +220,13 @@ set-lines b m l e = rw (eq-eqb (l % 2) 0 e) (go (b .dma .serving))
 abbrev pub edged : Bool → Bool → Bool → Bool
 edged e was now = (e or (now and not was)) and not (was and not now)
 
+-- A line that stays leaves its request.
+pub same-edge : (v p : Bool) → edged v p p ≡ v
+same-edge true true = refl
+same-edge true false = refl
+same-edge false true = refl
+same-edge false false = refl
+
 masked-small : (x m : ℕ) → x < 256 → maskedOf x m < 256
 unfolding maskedOf
 masked-small x m h = omega (arith, and-le-l x (255 - m))
