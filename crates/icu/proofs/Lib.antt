@@ -1,4 +1,5 @@
 pub mod Ranks
+pub mod Turned
 pub mod Int
 pub mod Once
 pub mod Command

@@ -52,8 +52,23 @@ pub enum Acknowledged {
     Unready,
 }
 
-// The highest-ranked level whose bit is set in x, 8 where none is.
+// The highest-ranked level whose bit is set in x, 8 where none is. The first rank is that of the level past the lowest: with x turned right so that this
+// level is bit 0, each zero bit below the lowest one is a rank that does not ask.
 pub fn highest(x: u8, lowest: u8) -> u8
+    ensures { λ r. ⌜ r ≡ highestOf x lowest ⌝ }
+    ensures { λ r. ⌜ r ≤ 8 ⌝ }
+{
+    if x == 0 {
+        return Icu::LEVELS;
+    }
+    let first = (lowest % 8 + 1) % 8;
+    // x twice, side by side: eight bits of that, from any of the first eight on, are x turned
+    let turned = (((x as u16) * 257 >> first) % 256) as u8;
+    (first + u8::trailing_zeros(turned) as u8) % 8
+}
+
+// The same, rank by rank, as the rule has it. No chip uses it: the program `duel` holds `highest` against it.
+pub fn highest_by_steps(x: u8, lowest: u8) -> u8
     ensures { λ r. ⌜ r ≡ highestOf x lowest ⌝ }
     ensures { λ r. ⌜ r ≤ 8 ⌝ }
 {

@@ -1,80 +1,49 @@
-use mathlib.Core.Path.{_≡_, refl, sym, _∙_}
-use Prim.Native.Nat.{ℕ, _-_, _≤_, _+_, _%_}
 use native.Mathlib.Omega.{arith}
+use borrow.Author.Tests.{eq-eqb, ne-eqb}
 use borrow.Author.Needs.{needs}
-use Rattle.bits.specs.Bits.{bitOf}
-use Rattle.icu.specs.Ranks.{highestFrom, highestOf, levelAt}
-use Rattle.icu.proofs.Ranks.{end, hit, miss, level-is}
+use Rattle.icu.proofs.Turned.{zeros-fit, sum-fits, by-turning}
 use Rattle.icu.proofs.highest.Statement.{statement}
 use Rattle.icu.proofs.highest.Tie as tie
 use Rattle.icu.proofs.highest.Reads as reads
 use Rattle.icu.proofs.highest.Lts as lts
-use Rattle.bits.proofs.bit.Reads as bit-reads
 
-abbrev Inv-loop : tie.InvT-loop
-Inv-loop x lowest k₀ k = (k ≤ 8) × (highestFrom x lowest k (8 - k) ≡ highestOf x lowest)
+returns : tie.Need-returns
+returns c = (rw (by-turning (c .before .args .x) (c .before .args .lowest) (search needs), eq-eqb _ _ (c .if1 .taken)), search needs)
 
-abbrev μ-loop : tie.MeasureT-loop
-μ-loop x lowest k₀ k = 8 - k
+add-first : tie.Need-add-first
+add-first c = search needs
 
--- src/lib.rt:59:9
-loop-holds : tie.Need-loop-holds Inv-loop μ-loop
-unfolding highestOf
-loop-holds c = (search needs, refl)
+mul-turned : tie.Need-mul-turned
+mul-turned c = search needs
 
--- src/lib.rt:63:22
-add-level : tie.Need-add-level Inv-loop μ-loop
-add-level c = omega arith
+cast-turned : tie.Need-cast-turned
+cast-turned c = search needs
 
--- src/lib.rt:63:22
-add-level-2 : tie.Need-add-level-2 Inv-loop μ-loop
-add-level-2 c = omega arith
+shr-turned : tie.Need-shr-turned
+shr-turned c = search needs
 
--- src/lib.rt:64:12
-bit-requires : tie.Need-bit-requires Inv-loop μ-loop
-bit-requires c κs = search needs
+cast-turned-2 : tie.Need-cast-turned-2
+cast-turned-2 c = search needs
 
--- src/lib.rt:67:9
-add-k : tie.Need-add-k Inv-loop μ-loop
-add-k c = omega arith
+cast-result : tie.Need-cast-result
+cast-result c = record { fits = zeros-fit _ }
 
--- src/lib.rt:59:9
-loop-less : tie.Need-loop-less Inv-loop μ-loop
-loop-less c = omega arith
+add-result : tie.Need-add-result
+add-result c = record { fits = sum-fits _ _ (omega arith) }
 
--- src/lib.rt:59:9
-loop-again : tie.Need-loop-again Inv-loop μ-loop
-loop-again c =
-    let l = c .before .before .before .loop in
-    let a = c .before .before .before .before .args in
-    (omega arith, sym (miss (a .x) (a .lowest) (l .k) (omega arith) (rw (level-is (a .lowest) (l .k)) (sym (c .before .bit .ensures) ∙ c .if2 .left))) ∙ l .inv .1)
-
--- src/lib.rt:54:1
-returns : tie.Need-returns Inv-loop μ-loop
-returns c =
-    let l = c .before .loop in
-    let a = c .before .before .args in
-    (sym (end (a .x) (a .lowest) (l .k) (c .if1 .taken)) ∙ l .inv .1, omega arith)
-
--- src/lib.rt:54:1
-returns-2 : tie.Need-returns-2 Inv-loop μ-loop
-returns-2 c =
-    let l = c .before .before .before .loop in
-    let a = c .before .before .before .before .args in
-    (sym (level-is (a .lowest) (l .k)) ∙ sym (hit (a .x) (a .lowest) (l .k) (omega arith) (rw (level-is (a .lowest) (l .k)) (sym (c .before .bit .ensures) ∙ c .if2 .taken))) ∙ l .inv .1, omega arith)
+returns-2 : tie.Need-returns-2
+returns-2 c = (rw (by-turning (c .before .args .x) (c .before .args .lowest) (search needs), ne-eqb _ _ (c .if1 .left)), search needs)
 
 pub highest-spec : {M : Type 1} → statement M
 highest-spec =
     tie.close
     (tie.spec
-    Inv-loop
-    μ-loop
-    loop-holds
-    add-level
-    add-level-2
-    bit-requires
-    add-k
-    loop-less
-    loop-again
     returns
+    add-first
+    mul-turned
+    cast-turned
+    shr-turned
+    cast-turned-2
+    cast-result
+    add-result
     returns-2)
