@@ -4,6 +4,7 @@ mod first;
 mod rounds;
 mod run;
 mod same;
+mod search;
 mod spoilt;
 
 use rival::counts;
@@ -47,12 +48,15 @@ fn are_wrong(words: usize) -> bool {
 fn run_all(words: usize) -> u8 {
     let totals = run::take_arguments(words);
     let totalled = run::print_totals(totals);
+    let searched = search::compare();
+    let told = search::print_all(searched);
     let counted = rounds::duel(ROUNDS);
     let written = rounds::print_all(ROUNDS, counted);
+    let tally = counts::add(counted.tally, counts::DIFFERENCES, searched.differences);
     run::print_last(
         totals,
-        counts::at(counted.tally, counts::DIFFERENCES),
-        totalled & written,
+        counts::at(tally, counts::DIFFERENCES),
+        totalled & told & written,
     )
 }
 
