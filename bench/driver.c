@@ -644,6 +644,25 @@ static double units_tape(length records, length mode)
     return (double)records;
 }
 
+/* One interrupt chip at work, INT worked out at each record: lines turned over, masks, acknowledges at any time, and finish commands, half of which turn
+ * the ranks. */
+static double search_tape(length records, length how)
+{
+    (void)how;
+    size = 0;
+    state = 9;
+    held = 0;
+    set_up();
+    while (size < 8 * records)
+        switch (below(4)) {
+        case 0: held ^= 2u << below(7), put(3, 0, held); break;
+        case 1: put(1, 0x01, below(256) & below(256)); break;
+        case 2: put(4, 0, 0); break;
+        default: put(1, 0x00, 0x20 | below(2) << 7);
+        }
+    return (double)records;
+}
+
 /* A slave at work, both chips in vector mode: a line of it rises, is acknowledged, and falls, and both chips get their finish command. */
 static double cascade_tape(length records, length how)
 {
@@ -688,6 +707,7 @@ static const struct line lines[] = {
     {"reads", "record, register reads", reads_tape, 200000, 0, 0, 0},
     {"in", "unit, block, device to memory", units_tape, 200000, 0x94, 0, 0},
     {"out", "unit, block, memory to device", units_tape, 200000, 0x98, 0, 0},
+    {"search", "record, requests, masks, acknowledges", search_tape, 200000, 0, 0, 0},
     {"cascade", "record, a slave's requests", cascade_tape, 200000, 0, 0, 0},
     {"", "record, mixed, tapes of 1,000", mixed_tape, MOST, 1000, 1000, 0},
     {"", "record, mixed, tapes of 10,000", mixed_tape, MOST, 10000, 10000, 0},
