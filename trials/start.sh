@@ -596,3 +596,13 @@ trial_package_names() { # package/make replaces a regular file and nothing else:
     [ ! -e nothing ] || wrong nothing 'no such file' "$(look nothing)"
     [ -z "$(ls -A folder)" ] || wrong folder 'an empty folder' "$(ls -A folder)"
 }
+
+trial_package() { # package/make makes a package, whose pages lead to nothing that is not in it
+    [ -f "$home/crates.txt" ] || skip "a package makes none"
+    asked='package/make made.tar'
+    # (it may have to build the library first, which takes as long as it takes)
+    "$home/package/make" made.tar >out 2>said
+    status=$?
+    status_is 0
+    [ -s made.tar ] || wrong made.tar 'a package' none
+}

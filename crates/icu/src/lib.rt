@@ -52,8 +52,8 @@ pub enum Acknowledged {
     Unready,
 }
 
-// The highest-ranked level whose bit is set in x, 8 where none is. The first rank is that of the level past the lowest: with x turned right so that this
-// level is bit 0, each zero bit below the lowest one is a rank that does not ask.
+// The highest-ranked level whose bit is set in x, 8 where none is. The level past the lowest has the first rank: with x turned right so that it is bit 0,
+// the bits go down the ranks, and there are as many zero bits below the lowest one as ranks above the level.
 pub fn highest(x: u8, lowest: u8) -> u8
     ensures { λ r. ⌜ r ≡ highestOf x lowest ⌝ }
     ensures { λ r. ⌜ r ≤ 8 ⌝ }
