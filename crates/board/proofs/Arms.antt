@@ -1,7 +1,7 @@
 -- What each arm of the loop comes to: the step of its record.
 use mathlib.Core.Bool.{Bool, true, false}
 use mathlib.Core.Path.{_≡_, refl, ap, sym, _∙_}
-use mathlib.Core.List.{List, [], _∷_}
+use mathlib.Core.List.{List, [], _∷_, _++_}
 use Prim.Native.Nat.{ℕ, _/_, _%_}
 use native.Mathlib.Omega.{arith}
 use borrow.Author.Tests.{eq-eqb, ne-eqb, eqb-true, eqb-false}
@@ -32,6 +32,7 @@ use Rattle.dma.specs.declared.Got.{Got}
 use Rattle.dma.specs.declared.Seen as DmaSeen
 use Rattle.dma.specs.Registers as DmaRegisters
 use Rattle.dma.specs.declared.Channel.{Channel}
+use Rattle.dma.specs.declared.Carried.{Carried}
 use Rattle.dma.specs.declared.Report.{Report}
 use Rattle.dma.specs.Fields.{chan, channels-are}
 use Rattle.dma.specs.Report.{Told, told, moved}
@@ -414,13 +415,13 @@ module _ (b : Board) (r m : List ℕ) (j : ℕ) (ej : j ≡ joined b) (l : ℕ) 
       pub plain-unit : (e : Bool) (x : ℕ) → o ≡ Cycle e x
           → let c = chan (b .dma) (b .dma .channel % 4) in
           plainOf c (b .dma .serving) (b .dma .channel) (b .dma .requests) e ≡ true
-          → (c′ : Channel) (m′ p : List ℕ) (k : ℕ)
+          → (c′ : Channel) (m′ p : List ℕ) (w : Carried)
           → c′ ≡ DmaCycle.movedOf c false
           → m′ ≡ DmaCycle.memoryOf c m x
-          → k ≡ DmaCycle.byteOf c m x
-          → p ≡ twelve (2 ∷ b .dma .channel ∷ flagOf false ∷ flagOf false ∷ littleOf (c .current .address))
-          → Turned b r m (dma-is (channels-are (set (b .dma .channels) (b .dma .channel % 4) c′) (b .dma)) b) m′ j l (answerOf 0 (byte r 0) k l p)
-      plain-unit e x v h c′ m′ p k ec em ek ep =
+          → w ≡ DmaCycle.carriedOf c m x
+          → p ≡ twelve (2 ∷ b .dma .channel ∷ flagOf false ∷ flagOf false ∷ littleOf (c .current .address) ++ flagOf (w .outside) ∷ [])
+          → Turned b r m (dma-is (channels-are (set (b .dma .channels) (b .dma .channel % 4) c′) (b .dma)) b) m′ j l (answerOf 0 (byte r 0) (w .byte) l p)
+      plain-unit e x v h c′ m′ p w ec em ew ep =
           let c = chan (b .dma) (b .dma .channel % 4) in
-          cycle e x v _ (moved (b .dma .channel) false false (c .current .address) (DmaCycle.byteOf c m x)) m′ p k
-          (rw (ec, em) (sym (plain (b .dma) e x m h))) ek ep
+          cycle e x v _ (moved (b .dma .channel) false false (c .current .address) (w .byte) (w .outside)) m′ p (w .byte)
+          (rw (ec, em, ew) (sym (plain (b .dma) e x m h))) refl ep

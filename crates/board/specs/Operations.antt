@@ -134,12 +134,12 @@ readOf b p =
     else if eqb (p / 16) 2 then dmaShown b p
     else slaveShown b (a0 p)
 
--- What a DMA cycle reports: kind, channel, end, service stopped, and the unit's address in four bytes, little end first.
 abbrev pub flagOf : Bool → ℕ
 flagOf k = if k then 1 else 0
 
+-- What a DMA cycle reports: kind, channel, end, service stopped, the unit's address in four bytes, little end first, and 1 if the unit fell off.
 abbrev pub payloadOf : Told → List ℕ
-payloadOf t = t .kind ∷ t .channel ∷ flagOf (t .end) ∷ flagOf (t .stopped) ∷ littleOf (t .address)
+payloadOf t = t .kind ∷ t .channel ∷ flagOf (t .end) ∷ flagOf (t .stopped) ∷ littleOf (t .address) ++ flagOf (t .outside) ∷ []
 
 abbrev pub cycled : Board → Bool → ℕ → List ℕ → DmaCycle.Out
 cycled b end x m = DmaCycle.cycleOf (b .dma) end x m

@@ -147,13 +147,14 @@ fn flag(k: bool) -> u8
 }
 
 // A unit as payload.
-fn moved_payload(channel: u8, end: bool, stopped: bool, address: u32) -> [u8; 12]
-    ensures { λ r. ⌜ r ≡ twelve (2 ∷ channel ∷ flagOf end ∷ flagOf stopped ∷ littleOf address) ⌝ }
+fn moved_payload(channel: u8, end: bool, stopped: bool, address: u32, outside: bool) -> [u8; 12]
+    ensures { λ r. ⌜ r ≡ twelve (2 ∷ channel ∷ flagOf end ∷ flagOf stopped ∷ littleOf address ++ flagOf outside ∷ []) ⌝ }
 {
     let a = tape::little(address);
     let e = flag(end);
     let s = flag(stopped);
-    [2, channel, e, s, a[0], a[1], a[2], a[3], 0, 0, 0, 0]
+    let o = flag(outside);
+    [2, channel, e, s, a[0], a[1], a[2], a[3], o, 0, 0, 0]
 }
 
 // A cycle's report as payload.
@@ -168,7 +169,7 @@ fn payload(report: Report) -> [u8; 12]
             return [1, n, 0, 0, 0, 0, 0, 0, 0, 0, 0, 0];
         }
         Report::Moved(u) => {
-            return moved_payload(u.channel, u.end, u.stopped, u.address);
+            return moved_payload(u.channel, u.end, u.stopped, u.address, u.outside);
         }
         Report::Released(n) => {
             return [3, n, 0, 1, 0, 0, 0, 0, 0, 0, 0, 0];
@@ -713,10 +714,10 @@ impl Board {
                     let at = (n % 4) as usize;
                     let c = dma.channels[at];
                     if dma::is_plain(c, dma.serving, n, dma.requests, end) {
-                        let byte = c.transfer(x, memory);
+                        let carried = c.transfer(x, memory);
                         dma.channels[at] = c.advance(false);
-                        let p = moved_payload(n, false, false, c.current.address);
-                        tell(answers, i, 0, op, byte, levels, p);
+                        let p = moved_payload(n, false, false, c.current.address, carried.outside);
+                        tell(answers, i, 0, op, carried.byte, levels, p);
                         continue;
                     }
                     let cycled = dma.cycle(end, x, memory);

@@ -1,3 +1,4 @@
+pub mod Inside
 pub mod Lists
 pub mod Looks
 pub mod Numbers

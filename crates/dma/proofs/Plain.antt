@@ -13,7 +13,7 @@ use Rattle.dma.specs.declared.Channel.{Channel}
 use Rattle.dma.specs.declared.Dma.{Dma}
 use Rattle.dma.specs.Fields.{chan, served, channels-are}
 use Rattle.dma.specs.Report.{moved}
-use Rattle.dma.specs.Cycle.{Out, plainOf, single, demand, movedOf, memoryOf, byteOf, unitOf, cycleOf}
+use Rattle.dma.specs.Cycle.{Out, plainOf, single, demand, movedOf, memoryOf, byteOf, outsideOf, unitOf, cycleOf}
 
 -- the tests of a plain unit, each by itself: serving, no such channel, count 0, END, single, demand, requested
 tests : (v l z e s q r : Bool)
@@ -34,7 +34,7 @@ goneOn d b m k c =
     record {
       dma = channels-are (set (d .channels) k (movedOf c false)) d;
       memory = memoryOf c m b;
-      report = moved (d .channel) false false (c .current .address) (byteOf c m b);
+      report = moved (d .channel) false false (c .current .address) (byteOf c m b) (outsideOf c m);
     }
 
 abbrev Plain : Dma → Bool → ℕ → Type 0

@@ -3,12 +3,13 @@ use Prim.Native.Nat.{ℕ, zero, suc, _+_, _/_, _%_}
 use mathlib.Core.List.{List}
 use mathlib.Core.Bool.{Bool, true, false, not}
 use lib.Dec.{eqb, ltb, leb}
-use lib.ListN.{getD, set}
+use lib.ListN.{getD, set, length}
 use Rattle.bits.specs.Choice.{if_then_else_, _and_, _or_}
 use Rattle.bits.specs.Bits.{bitOf, withOf, less}
 use Rattle.dma.specs.declared.Span.{Span}
 use Rattle.dma.specs.declared.Channel.{Channel}
 use Rattle.dma.specs.declared.Dma.{Dma}
+use Rattle.dma.specs.declared.Carried.{Carried}
 use Rattle.dma.specs.Fields.{span, current-is, masked-is, chan, served, turned}
 use Rattle.dma.specs.Report.{Told, nothing, granted, moved, released}
 
@@ -87,12 +88,28 @@ peekOf m a = if ltb a 16777216 then getD m a 255 else 255
 abbrev pub pokeOf : List ℕ → ℕ → ℕ → List ℕ
 pokeOf m a b = if ltb a 16777216 then set m a b else m
 
+-- An address is inside the lent memory if the memory has a byte there: it is below the memory's end, and below 2^24.
+abbrev pub inMemory : List ℕ → ℕ → Bool
+inMemory m a = ltb a 16777216 and ltb a (length m)
+
 -- The byte that a unit moves, the device's b or memory's, and the memory after it. Verify gives 0.
 abbrev pub byteOf : Channel → List ℕ → ℕ → ℕ
 byteOf c m b = if writes c then b else if reads c then peekOf m (c .current .address) else 0
 
 abbrev pub memoryOf : Channel → List ℕ → ℕ → List ℕ
 memoryOf c m b = if writes c then pokeOf m (c .current .address) b else m
+
+-- A unit falls off if it writes or reads at an address outside: the byte written is lost, the byte read is FFH. Verify uses no memory, and never
+-- falls off.
+abbrev pub outsideOf : Channel → List ℕ → Bool
+outsideOf c m = (writes c or reads c) and not (inMemory m (c .current .address))
+
+-- The two together: what the step that moves a unit hands on.
+abbrev pub carried : ℕ → Bool → Carried
+carried b o = record { byte = b; outside = o }
+
+abbrev pub carriedOf : Channel → List ℕ → ℕ → Carried
+carriedOf c m b = carried (byteOf c m b) (outsideOf c m)
 
 -- The next address, modulo 2^24, and the next count, modulo 2^16.
 abbrev pub stepped : ℕ → Bool → ℕ
@@ -145,7 +162,8 @@ unitBy d last stop b m =
     record {
       dma = settledOf d (movedOf (served d) last) last stop;
       memory = memoryOf (served d) m b;
-      report = moved (d .channel) last stop (served d .current .address) (byteOf (served d) m b);
+      report =
+          moved (d .channel) last stop (served d .current .address) (byteOf (served d) m b) (outsideOf (served d) m);
     }
 
 unfoldable pub unitOf : Dma → Bool → ℕ → List ℕ → Out

@@ -8,7 +8,7 @@ use Rattle.dma.specs.declared.Report.{Report}
 use Rattle.dma.specs.declared.Report.the-variants.{Nothing, Granted, Moved, Released}
 
 -- Kind: 0 nothing, 1 granted, 2 moved, 3 released. Stopped: service stopped. The address is that of the unit, the byte the
--- data moved.
+-- data moved. Outside: the unit fell off, so it wrote or read at an address outside the lent memory.
 pub record Told : Type 0 where
   pub kind : ℕ
   pub channel : ℕ
@@ -16,25 +16,26 @@ pub record Told : Type 0 where
   pub stopped : Bool
   pub address : ℕ
   pub byte : ℕ
+  pub outside : Bool
 
 -- All is zero that a kind doesn't name; a release stops service.
 abbrev pub nothing : Told
-nothing = record { kind = 0; channel = 0; end = false; stopped = false; address = 0; byte = 0 }
+nothing = record { kind = 0; channel = 0; end = false; stopped = false; address = 0; byte = 0; outside = false }
 
 abbrev pub granted : ℕ → Told
-granted n = record { kind = 1; channel = n; end = false; stopped = false; address = 0; byte = 0 }
+granted n = record { kind = 1; channel = n; end = false; stopped = false; address = 0; byte = 0; outside = false }
 
-abbrev pub moved : ℕ → Bool → Bool → ℕ → ℕ → Told
-moved n e s a b = record { kind = 2; channel = n; end = e; stopped = s; address = a; byte = b }
+abbrev pub moved : ℕ → Bool → Bool → ℕ → ℕ → Bool → Told
+moved n e s a b o = record { kind = 2; channel = n; end = e; stopped = s; address = a; byte = b; outside = o }
 
 abbrev pub released : ℕ → Told
-released n = record { kind = 3; channel = n; end = false; stopped = true; address = 0; byte = 0 }
+released n = record { kind = 3; channel = n; end = false; stopped = true; address = 0; byte = 0; outside = false }
 
 -- The numbers of each case.
 abbrev pub told : Report → Told
 told Nothing = nothing
 told (Granted n) = granted n
-told (Moved u) = moved (u .channel) (u .end) (u .stopped) (u .address) (u .byte)
+told (Moved u) = moved (u .channel) (u .end) (u .stopped) (u .address) (u .byte) (u .outside)
 told (Released n) = released n
 
 -- The report that some numbers tell of; so no two reports have the same numbers.
@@ -43,7 +44,15 @@ reportOf t =
     if eqb (t .kind) 0 then Nothing
     else if eqb (t .kind) 1 then Granted (t .channel)
     else if eqb (t .kind) 2 then
-    Moved (record { channel = t .channel; end = t .end; stopped = t .stopped; address = t .address; byte = t .byte })
+    Moved
+    (record {
+      channel = t .channel;
+      end = t .end;
+      stopped = t .stopped;
+      address = t .address;
+      byte = t .byte;
+      outside = t .outside;
+    })
     else Released (t .channel)
 
 told-back : (r : Report) → reportOf (told r) ≡ r

@@ -8,7 +8,7 @@ ghost use lib.ListN.{set};
 ghost use Rattle.dma.specs.Fields.{chan, channels-are};
 ghost use Rattle.dma.specs.Registers.{resetOf, requestedOf, taken, refused, initializedOf, selectedOf, replacedOf, loadedOf, keptFirst, controlledOf, heldZero, unbuiltMode, modedOf, maskedBy, writeOf, shows, unread, seenAs, byteAt, shownSpan, masksOf, readOf, seenOf};
 ghost use Rattle.dma.specs.Report.{told, nothing};
-ghost use Rattle.dma.specs.Cycle.{ready, channelAt, winner, grantedOf, firstAfter, releases, releasedOf, peekOf, pokeOf, byteOf, memoryOf, stepped, next, lastOf, stopsOf, movedOf, endsAfter, settledOf, unitOf, cycleOf, plainOf};
+ghost use Rattle.dma.specs.Cycle.{ready, channelAt, winner, grantedOf, firstAfter, releases, releasedOf, inMemory, peekOf, pokeOf, carried, carriedOf, memoryOf, stepped, next, lastOf, stopsOf, movedOf, endsAfter, settledOf, unitOf, cycleOf, plainOf};
 
 // Where a transfer stands, or starts: an address of 24 bits, and the units still to come, less one.
 #[repr(C)]
@@ -86,6 +86,23 @@ pub struct Seen {
     pub ends: u8,
 }
 
+// What a unit carries: its byte, and whether its address lies outside the lent memory.
+pub struct Carried {
+    pub byte: u8,
+    pub outside: bool,
+}
+
+impl Carried {
+    fn new(byte: u8, outside: bool) -> Carried
+        ensures { λ r. ⌜ r ≡ carried byte outside ⌝ }
+    {
+        Carried {
+            byte: byte,
+            outside: outside,
+        }
+    }
+}
+
 // One byte moved, or verified.
 pub struct Unit {
     pub channel: u8,
@@ -93,6 +110,7 @@ pub struct Unit {
     pub stopped: bool,
     pub address: u32,
     pub byte: u8,
+    pub outside: bool,
 }
 
 // What one bus cycle did, with the channel that it did it for.
@@ -124,30 +142,36 @@ fn wide_count(b: u8) -> u16
     b as u16
 }
 
+// Whether the memory has a byte at an address, and the address space too.
+fn is_inside(memory: &[u8], at: u32) -> bool
+    ensures { λ r. ⌜ r ≡ inMemory (now (memory .entry)) at ⌝ }
+{
+    if at < Dma::SPACE {
+        return (at as usize) < memory.len();
+    }
+    false
+}
+
 // The byte at an address, FFH past the end of the memory or of the address space.
 fn peek(memory: &[u8], at: u32) -> u8
     ensures { λ r. ⌜ r ≡ peekOf (now (memory .entry)) at ⌝ }
 {
-    if at < Dma::SPACE {
-        let i = at as usize;
-        if i < memory.len() {
-            return memory[i];
-        }
-        return 255;
+    if is_inside(memory, at) {
+        return memory[at as usize];
     }
     255
 }
 
-// A byte at an address, lost past the end of the memory or of the address space.
-fn poke(memory: &mut [u8], at: u32, b: u8)
-    ensures { λ _. ⌜ now (memory .exit) ≡ pokeOf (now (memory .entry)) at b ⌝ }
+// A byte at an address, lost past the end of the memory or of the address space. Answers whether it is there.
+fn poke(memory: &mut [u8], at: u32, b: u8) -> bool
+    ensures result { λ r. ⌜ r ≡ inMemory (now (memory .entry)) at ⌝ }
+    ensures memory { λ _. ⌜ now (memory .exit) ≡ pokeOf (now (memory .entry)) at b ⌝ }
 {
-    if at < Dma::SPACE {
-        let i = at as usize;
-        if i < memory.len() {
-            memory[i] = b;
-        }
+    if is_inside(memory, at) {
+        memory[at as usize] = b;
+        return true;
     }
+    false
 }
 
 // The next address, modulo 2^24.
@@ -261,20 +285,21 @@ impl Channel {
         self.mode / 64 == 1
     }
 
-    // Moves the byte; verify moves none and answers 0.
-    pub fn transfer(self, byte: u8, memory: &mut [u8]) -> u8
-        ensures result { λ r. ⌜ r ≡ byteOf self (now (memory .entry)) byte ⌝ }
+    // Moves the byte, and says whether its address lies outside the memory; verify moves none, answers 0 and has no such address.
+    pub fn transfer(self, byte: u8, memory: &mut [u8]) -> Carried
+        ensures result { λ r. ⌜ r ≡ carriedOf self (now (memory .entry)) byte ⌝ }
         ensures memory { λ _. ⌜ now (memory .exit) ≡ memoryOf self (now (memory .entry)) byte ⌝ }
     {
         let direction = self.mode / 4 % 4;
         if direction == 1 {
-            poke(memory, self.current.address, byte);
-            return byte;
+            let inside = poke(memory, self.current.address, byte);
+            return Carried::new(byte, !inside);
         }
+        let outside = !is_inside(memory, self.current.address);
         if direction == 2 {
-            return peek(memory, self.current.address);
+            return Carried::new(peek(memory, self.current.address), outside);
         }
-        0
+        Carried::new(0, false)
     }
 }
 
@@ -769,7 +794,7 @@ impl Dma {
         let stop = c.does_stop(last);
         let next = c.advance(last);
         let settled = self.settle(next, last, stop);
-        let b = c.transfer(byte, memory);
+        let carried = c.transfer(byte, memory);
         Cycle {
             dma: settled,
             report: Report::Moved(Unit {
@@ -777,7 +802,8 @@ impl Dma {
                 end: last,
                 stopped: stop,
                 address: c.current.address,
-                byte: b,
+                byte: carried.byte,
+                outside: carried.outside,
             }),
         }
     }

@@ -21,6 +21,7 @@ pub mod Refusals
 pub mod Rows
 pub mod Calls
 pub mod Demand1
+pub mod Outside
 pub mod Aside
 pub mod Parts
 pub mod Fit

@@ -2,6 +2,7 @@
 use Rattle.promises.specs.Promises.{Promises}
 use Rattle.promises.proofs.Demand1.{demand-1}
 use Rattle.promises.proofs.Demand3.{demand-3}
+use Rattle.promises.proofs.Outside.{outside}
 use Rattle.promises.proofs.Reached.{reached}
 use Rattle.promises.proofs.Chopped.{chopped}
 use Rattle.promises.proofs.Taught.{taught}
@@ -18,6 +19,7 @@ promises =
     record {
       demand-1 = demand-1;
       demand-3 = demand-3;
+      outside = outside;
       reached = reached;
       chopped = chopped;
       taught = taught;

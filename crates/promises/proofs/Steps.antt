@@ -57,7 +57,7 @@ won d k (suc left) h = at (ready d (channelAt d k)) refl (won d (suc k) left) h
     at true q ih h = starts (is-ready d _ q)
     at false q ih h = ih h
 
-joined : (a : ℕ) → a < 16777216 → a % 256 + a / 256 % 256 * 256 + a / 65536 % 256 * 65536 + a / 16777216 % 256 * 16777216 ≡ a
+pub joined : (a : ℕ) → a < 16777216 → a % 256 + a / 256 % 256 * 256 + a / 65536 % 256 * 65536 + a / 16777216 % 256 * 16777216 ≡ a
 joined a h = omega arith
 
 abbrev pub cycleAnswer : ℕ → Told → List ℕ

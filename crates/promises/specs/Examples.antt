@@ -81,7 +81,8 @@ twelve =
           ∷ answer 0 2 15 0 []
           ∷ [];
     }
-    -- 10. The same with count 1 at address FFFFFFH: the unit is there, and the next address reads 00H 00H 00H.
+    -- 10. The same with count 1 at address FFFFFFH: the unit is there, past the four bytes of memory, so byte 12 is 1; the next address
+    -- reads 00H 00H 00H.
     ∷ record {
       tape =
           writing 34 1
@@ -98,7 +99,7 @@ twelve =
           ∷ reading 38
           ∷ [];
       answers =
-          answer 0 6 65 0 (2 ∷ 0 ∷ 0 ∷ 1 ∷ 255 ∷ 255 ∷ 255 ∷ [])
+          answer 0 6 65 0 (2 ∷ 0 ∷ 0 ∷ 1 ∷ 255 ∷ 255 ∷ 255 ∷ 0 ∷ 1 ∷ [])
           ∷ answer 0 2 0 0 []
           ∷ answer 0 2 0 0 []
           ∷ answer 0 2 0 0 []

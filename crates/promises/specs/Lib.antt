@@ -4,6 +4,7 @@ pub mod Words
 pub mod Reached
 pub mod Demand1
 pub mod Demand3
+pub mod Outside
 pub mod TaughtWords
 pub mod Taught
 pub mod Modes

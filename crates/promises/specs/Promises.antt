@@ -2,6 +2,7 @@
 -- the fields are in Exact.antt of the crate `exact`. Above a statement, "Not so" names boards that it rules out.
 use Rattle.promises.specs.Demand1.{Demand1}
 use Rattle.promises.specs.Demand3.{Demand3}
+use Rattle.promises.specs.Outside.{Outside}
 use Rattle.promises.specs.Reached.{ReachedBoards}
 use Rattle.promises.specs.Chopped.{Chopped}
 use Rattle.promises.specs.Taught.{Taught}
@@ -16,6 +17,7 @@ use Rattle.promises.specs.Examples.{Examples}
 pub record Promises : Type 0 where
   pub demand-1 : Demand1
   pub demand-3 : Demand3
+  pub outside : Outside
   pub reached : ReachedBoards
   pub chopped : Chopped
   pub taught : Taught

@@ -32,7 +32,7 @@ answersIn a (suc n) = answersIn a n ++ answerAt a n ∷ []
 abbrev pub reportsUnit : List ℕ → Bool
 reportsUnit a = eqb (getD a 0 0) 0 and eqb (getD a 1 0) 6 and eqb (getD a 4 0) 2
 
--- Whose unit it is, where in memory it is, and the byte moved.
+-- Whose unit it is, where in memory it is, the byte moved, and byte 12: 1 if the unit fell off the end of memory.
 abbrev pub channelIn : List ℕ → ℕ
 channelIn a = getD a 5 0
 
@@ -41,6 +41,9 @@ addressIn a = getD a 8 0 + getD a 9 0 * 256 + getD a 10 0 * 65536 + getD a 11 0 
 
 abbrev pub dataIn : List ℕ → ℕ
 dataIn a = getD a 2 0
+
+abbrev pub fellOffIn : List ℕ → ℕ
+fellOffIn a = getD a 12 0
 
 -- An answer reports a unit of channel k; the addresses of the units of channel k that some answers report, in their order.
 abbrev pub unitOf : ℕ → List ℕ → Bool
@@ -70,9 +73,16 @@ distance p a falls = if falls then (a + 16777216 - p) % 16777216 else (p + 16777
 unfoldable pub inside : ℕ → Span → Bool → Bool
 inside p s falls = ltb p 16777216 and leb (distance p (s .address) falls) (s .count)
 
--- A channel's mode byte: with D3-D2=01, device to memory, it is set to write memory; D4 is autoinitialize; D5 has the address fall.
+-- A channel's mode byte: with D3-D2=01, device to memory, it is set to write memory, with 10, memory to device, to read it, and with 00 to verify;
+-- D4 is autoinitialize; D5 has the address fall.
 abbrev pub writes : Channel → Bool
 writes c = eqb (c .mode / 4 % 4) 1
+
+abbrev pub reads : Channel → Bool
+reads c = eqb (c .mode / 4 % 4) 2
+
+abbrev pub verifies : Channel → Bool
+verifies c = eqb (c .mode / 4 % 4) 0
 
 abbrev pub auto : Channel → Bool
 auto c = bitOf (c .mode) 4

@@ -1,7 +1,7 @@
--- Boards and tapes of which demand 3 and the statements on lumps, loading, triggers, waves, half reads, latches, units, withdrawn requests and the slave speak, each from reset by a short
+-- Boards and tapes of which demand 3 and the statements on bytes that fell off, lumps, loading, triggers, waves, half reads, latches, units, withdrawn requests and the slave speak, each from reset by a short
 -- tape: so these are not about nothing. (For the other statements on interrupts, see the tapes of Examples.antt.)
 use mathlib.Core.Path.{_≡_}
-use mathlib.Core.List.{List, [], _∷_, _++_}
+use mathlib.Core.List.{List, [], _∷_, _++_, map}
 use mathlib.Core.Bool.{true, false}
 use Prim.Native.Nat.{ℕ, _+_, _*_, _<_}
 use lib.ListN.{getD, take, drop, length, replicate}
@@ -12,7 +12,7 @@ use Rattle.board.specs.Step.{stepOf}
 use Rattle.board.specs.Records.{after}
 use Rattle.intake.specs.Feed.{fedOf, fedMemory, fedAnswers}
 use Rattle.promises.specs.Records.{writing, reading, setting, acknowledging, advancing, pulsing, cycling, joined}
-use Rattle.promises.specs.Words.{answersIn, unitsOf, dataIn, Calm, CalmFrom, Further, requested}
+use Rattle.promises.specs.Words.{answersIn, unitsOf, dataIn, fellOffIn, Calm, CalmFrom, Further, requested}
 use Rattle.promises.specs.Reached.{Reached}
 use Rattle.promises.specs.TaughtWords.{loading, readAt, later}
 use Rattle.promises.specs.Waves.{Loaded}
@@ -34,6 +34,17 @@ memory = replicate 8 1
 
 unfoldable pub board : Board
 board = fedOf freshOf setup memory 80 .board
+
+-- Six bytes of memory, addresses 0 to 5: the first of the three units is at the last byte, and the other two are past the end. Then the same channel
+-- from address 5 again, in another mode.
+unfoldable pub short : List ℕ
+short = replicate 6 1
+
+unfoldable pub again : ℕ → List ℕ
+again mode = joined (writing 34 2 ∷ writing 35 0 ∷ writing 36 5 ∷ writing 42 mode ∷ writing 47 14 ∷ []) ++ further
+
+abbrev pub answersAgain : ℕ → List (List ℕ)
+answersAgain mode = drop 10 (answersIn (after board short (further ++ again mode) 15 .answers) 15)
 
 -- Loading. Counter 2 in mode 0, low byte, at 9; counter 0 in mode 2, low byte, at 3; and three pulses.
 unfoldable pub timing : Board
@@ -186,6 +197,13 @@ pub record Worked : Type 0 where
   -- The same in one call, from the end of its fifth record on.
   pub calm-inside : CalmFrom 5 freshOf memory (setup ++ further) 10
   pub units-inside : unitsOf 0 (drop 5 (answersIn (after freshOf memory (setup ++ further) 10 .answers) 10)) ≡ 5 ∷ 6 ∷ 7 ∷ []
+  -- Over six bytes the first unit lands, and the others are lost: address 6 is the memory's length. From memory to the device (88H) the first is read
+  -- back, and FFH (255) for the others. Verify (80H) moves the same three units, and byte 12 stays 0.
+  pub fallen : map fellOffIn (answersIn (after board short further 5 .answers) 5) ≡ 0 ∷ 0 ∷ 1 ∷ 1 ∷ 0 ∷ []
+  pub landed : after board short further 5 .memory ≡ 1 ∷ 1 ∷ 1 ∷ 1 ∷ 1 ∷ 7 ∷ []
+  pub read-back : map dataIn (answersAgain 136) ≡ 0 ∷ 7 ∷ 255 ∷ 255 ∷ 0 ∷ []
+  pub told-too : map fellOffIn (answersAgain 136) ≡ 0 ∷ 0 ∷ 1 ∷ 1 ∷ 0 ∷ []
+  pub verified : (unitsOf 0 (answersAgain 128) ≡ 5 ∷ 6 ∷ 7 ∷ []) × (map fellOffIn (answersAgain 128) ≡ 0 ∷ 0 ∷ 0 ∷ 0 ∷ 0 ∷ [])
   -- With no room the call is refused, and the same tape with room goes on from what it left.
   pub refused-call : fedOf board further memory 0 .status ≡ 7
   pub after-refused : Further (fedOf board further memory 0 .board) (fedMemory board further memory 0) (answersIn (fedAnswers board further memory (replicate 80 0)) 5 ++ []) (fedMemory board further memory 80)

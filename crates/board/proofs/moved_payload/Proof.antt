@@ -15,20 +15,23 @@ flag-requires c κs = search needs
 flag-requires-2 : tie.Need-flag-requires-2
 flag-requires-2 c κs = search needs
 
-array-read-t11 : tie.Need-array-read-t11
-array-read-t11 c = search needs
+flag-requires-3 : tie.Need-flag-requires-3
+flag-requires-3 c κs = search needs
 
-array-read-t14 : tie.Need-array-read-t14
-array-read-t14 c = search needs
+array-read-t13 : tie.Need-array-read-t13
+array-read-t13 c = search needs
 
-array-read-t17 : tie.Need-array-read-t17
-array-read-t17 c = search needs
+array-read-t16 : tie.Need-array-read-t16
+array-read-t16 c = search needs
 
-array-read-t20 : tie.Need-array-read-t20
-array-read-t20 c = search needs
+array-read-t19 : tie.Need-array-read-t19
+array-read-t19 c = search needs
+
+array-read-t22 : tie.Need-array-read-t22
+array-read-t22 c = search needs
 
 returns : tie.Need-returns
-returns c = rw (c .flag2 .ensures, c .before .flag .ensures, c .before .before .little .ensures)
+returns c = rw (c .flag3 .ensures, c .before .flag2 .ensures, c .before .before .flag .ensures, c .before .before .before .little .ensures)
 
 pub moved-payload-spec : {M : Type 1} → statement M
 moved-payload-spec =
@@ -37,8 +40,9 @@ moved-payload-spec =
     little-requires
     flag-requires
     flag-requires-2
-    array-read-t11
-    array-read-t14
-    array-read-t17
-    array-read-t20
+    flag-requires-3
+    array-read-t13
+    array-read-t16
+    array-read-t19
+    array-read-t22
     returns)

@@ -1,28 +1,23 @@
-use Rattle.dma.proofs.Lists.{getD-any}
-use lib.ListN.{List·getD-eq-default}
-use mathlib.Core.Path.{sym}
-use borrow.Author.Tests.{le-ltb, lt-ltb}
+use mathlib.Core.Path.{sym, _∙_}
 use borrow.Author.Needs.{needs}
+use Rattle.dma.proofs.Inside.{in-length, peek-inside, peek-outside}
 use Rattle.dma.proofs.peek.Statement.{statement}
 use Rattle.dma.proofs.peek.Tie as tie
 use Rattle.dma.proofs.peek.Reads as reads
 use Rattle.dma.proofs.peek.Lts as lts
+use Rattle.dma.proofs.is_inside.Reads as is-inside-reads
 
--- src/lib.rt:162:20
+is-inside-requires : tie.Need-is-inside-requires
+is-inside-requires c κs = search needs
+
 shared-slice-read-result : tie.Need-shared-slice-read-result
-shared-slice-read-result c = search needs
+shared-slice-read-result c = in-length (c .before .before .before .before .args .memory .now) (c .before .before .before .before .args .at) (sym (c .before .before .is-inside .ensures) ∙ c .before .if1 .taken)
 
--- src/lib.rt:162:13
 returns : tie.Need-returns
-returns c = rw (lt-ltb _ _ (c .before .before .if1 .taken)) (getD-any (c .before .before .before .args .memory .now) (c .before .before .before .args .at) 0 255 (c .before .if2 .taken))
+returns c = peek-inside (c .before .before .before .before .args .memory .now) (c .before .before .before .before .args .at) (sym (c .before .before .is-inside .ensures) ∙ c .before .if1 .taken)
 
--- src/lib.rt:164:9
 returns-2 : tie.Need-returns-2
-returns-2 c = rw (lt-ltb _ _ (c .before .if1 .taken)) (sym (List·getD-eq-default (c .before .before .args .memory .now) 255 (c .if2 .left)))
-
--- src/lib.rt:156:1
-returns-3 : tie.Need-returns-3
-returns-3 c = rw (le-ltb _ _ (c .if1 .left))
+returns-2 c = peek-outside (c .before .before .before .args .memory .now) (c .before .before .before .args .at) (sym (c .before .is-inside .ensures) ∙ c .if1 .left)
 
 pub peek-spec : {M : Type 1} → statement M
-peek-spec = tie.close (tie.spec shared-slice-read-result returns returns-2 returns-3)
+peek-spec = tie.close (tie.spec is-inside-requires shared-slice-read-result returns returns-2)
