@@ -8,6 +8,7 @@ mod search;
 mod spoilt;
 
 use rival::counts;
+use rival::places;
 
 const ROUNDS: u32 = 120;
 
@@ -52,7 +53,11 @@ fn run_all(words: usize) -> u8 {
     let told = search::print_all(searched);
     let counted = rounds::duel(ROUNDS);
     let written = rounds::print_all(ROUNDS, counted);
-    let tally = counts::add(counted.tally, counts::DIFFERENCES, searched.differences);
+    let tally = counts::add(
+        counts::add(counted.tally, counts::DIFFERENCES, searched.differences),
+        counts::DIFFERENCES,
+        places::otherwise(counted.places),
+    );
     run::print_last(
         totals,
         counts::at(tally, counts::DIFFERENCES),

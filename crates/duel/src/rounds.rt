@@ -6,6 +6,8 @@ use rival::counts;
 use rival::counts::Tally;
 use rival::modes;
 use rival::modes::Modes;
+use rival::places;
+use rival::places::Places;
 use rival::requests;
 use rival::requests::Requests;
 use rival::show;
@@ -52,6 +54,7 @@ pub struct Counted {
     modes: Modes,
     requests: Requests,
     slave: Slave,
+    pub places: Places,
 }
 
 fn fill(memory: &mut Memory, seed: u32) {
@@ -184,7 +187,12 @@ fn start(round: u32, counted: Counted) -> Round {
     Round {
         maker: tapes::start(round % 65536 + 1, length_of(round)),
         run: first::from_reset(round % 65536 + 1, counted.tally),
-        ran: stretch::from_reset(counted.modes, counted.requests, counted.slave),
+        ran: stretch::from_reset(
+            counted.modes,
+            counted.requests,
+            counted.slave,
+            counted.places,
+        ),
     }
 }
 
@@ -205,11 +213,13 @@ fn run_round(round: u32, counted: Counted) -> Counted {
     let modes = ran.modes;
     let requests = ran.requests;
     let slave = ran.slave;
+    let places = ran.places;
     Counted {
         tally: tally,
         modes: modes,
         requests: requests,
         slave: slave,
+        places: places,
     }
 }
 
@@ -219,6 +229,7 @@ fn none_yet() -> Counted {
         modes: modes::zero(),
         requests: requests::zero(),
         slave: slave::zero(),
+        places: places::zero(),
     }
 }
 
@@ -237,6 +248,7 @@ pub fn duel(n: u32) -> Counted {
 pub fn print_all(n: u32, counted: Counted) -> bool {
     show::print_with(b"rounds: %\n", n as u64, 0, 0, 0)
         & counts::print_all(counted.tally)
+        & places::print_all(counted.places)
         & requests::print_all(counted.requests)
         & slave::print_all(counted.slave)
         & modes::print_all(counted.modes)

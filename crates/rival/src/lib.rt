@@ -2,6 +2,7 @@
 pub mod counts;
 pub mod modes;
 pub mod notation;
+pub mod places;
 pub mod requests;
 pub mod show;
 pub mod slave;

@@ -1,7 +1,9 @@
 // A stretch of tape: 64 records at most, with room for their answers. Both boards run it. `differ_at` holds answers against answers and `first_apart`
-// memory against memory; nothing else compares.
+// memory against memory; nothing else compares the boards.
 use crate::modes;
 use crate::modes::Modes;
+use crate::places;
+use crate::places::Places;
 use crate::requests;
 use crate::requests::Requests;
 use crate::slave;
@@ -132,22 +134,24 @@ pub fn copy_memory(from: &Memory, to: &mut Memory) {
     }
 }
 
-// The second board under way, and what became of its counters, its requests and its slave.
+// The second board under way, and what became of its counters, its requests, its slave and its units.
 pub struct Ran {
     pub s: State,
     pub modes: Modes,
     pub requests: Requests,
     pub slave: Slave,
+    pub places: Places,
 }
 
 // The second board from reset, with the counts so far.
-pub fn from_reset(modes: Modes, requests: Requests, slave: Slave) -> Ran {
+pub fn from_reset(modes: Modes, requests: Requests, slave: Slave, places: Places) -> Ran {
     let s = second::second_reset();
     Ran {
         s: s,
         modes: modes,
         requests: requests,
         slave: slave,
+        places: places,
     }
 }
 
@@ -170,6 +174,7 @@ fn run_one(
         modes: modes::count_record(ran.modes, s, next, low, high, answer),
         requests: requests::count_record(ran.requests, s, next, low, answer),
         slave: slave::count_record(ran.slave, s, next, low, answer),
+        places: places::count_record(ran.places, s, memory.len(), answer),
     }
 }
 

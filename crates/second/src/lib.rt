@@ -1,5 +1,5 @@
-// The board of document 01, with the timer's six modes, with edge requests that a fall withdraws and with a slave chip on line 7, a second time: written
-// from the documents alone and held against the first by running both on the same tapes.
+// The board of document 01, with the timer's six modes, with edge requests that a fall withdraws, with a slave chip on line 7 and with units that say
+// where they fell outside the memory, a second time: written from the documents alone and held against the first by running both on the same tapes.
 //
 // The whole board is one array of 112 numbers, which functions take and give back by value. What a record may be is read off tables, every refusal
 // is decided before anything changes, and an advance is worked out by division, with no loop over its pulses.
@@ -1236,14 +1236,18 @@ fn stop(s: State, channel: u32) -> State {
     set(set(s, SERVED, 0), FIRST, rotated)
 }
 
+// 0 verify, 1 device to memory, 2 memory to device.
+fn direction(mode: u32) -> u32 {
+    mode / 4 % 4
+}
+
 // One byte at an address of memory, by the channel's direction: what moves.
 fn move_byte(mode: u32, address: u32, device: u8, memory: &mut [u8]) -> u8 {
-    let direction = mode / 4 % 4;
     let at = index(address % 16777216);
-    if direction == 0 {
+    if direction(mode) == 0 {
         return 0;
     }
-    if direction == 1 {
+    if direction(mode) == 1 {
         if at < memory.len() {
             memory[at] = device;
         }
@@ -1253,6 +1257,11 @@ fn move_byte(mode: u32, address: u32, device: u8, memory: &mut [u8]) -> u8 {
         return memory[at];
     }
     0xFF
+}
+
+// 1 where a unit has no byte of memory at its address. Verify looks for none.
+fn fallen(mode: u32, address: u32, length: usize) -> u32 {
+    number((direction(mode) != 0) & (index(address % 16777216) >= length))
 }
 
 // One step up or down of a 24-bit address.
@@ -1305,7 +1314,14 @@ fn cycle(s: State, ended: bool, device: u8, memory: &mut [u8]) -> Effect {
         return with_words(stop(s, channel), 0, word(3, channel, 0, 1), 0);
     }
     let moved = move_byte(mode, address, device, memory);
-    unit(s, channel, mode, address, ended, moved)
+    let mut told = unit(s, channel, mode, address, ended, moved);
+    told.third = fallen(mode, address, memory.len());
+    told
+}
+
+// What the duel counts units by: the direction of a channel modulo 4.
+pub fn direction_of(s: State, channel: u32) -> u32 {
+    direction(channel_of(s, channel, CHANNEL_MODE))
 }
 
 // The board.
