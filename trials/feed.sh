@@ -22,6 +22,9 @@ takes() {
     no_left_over "$1" "${2:-$1}"
 }
 
+# The bytes of the units that the answers of the last run have past the end of memory.
+units_outside() { od -An -v -tx1 -w16 out | awk '$1 == "00" && $2 == "06" && $5 == "02" && $13 == "01" { printf "%s ", $3 }'; }
+
 trial_feed_answers() { # the answers of a small tape and its memory are right, byte for byte
     cp "$work/before" m
     takes m
@@ -30,6 +33,13 @@ trial_feed_answers() { # the answers of a small tape and its memory are right, b
     silent
     # without memory the records that read it answer otherwise, but each has its answer
     expect 'bytes of answers' $(($(wc -c <"$tape") * 2)) "$(($(wc -c <out)))"
+    # its units, two to memory and four from there, are past its end, by byte 12; with three bytes of memory those at the address 3 are
+    expect 'units past the end of memory' '41 42 ff ff ff ff ' "$(units_outside)"
+    printf abc >m
+    start feed m <"$tape"
+    status_is 0
+    expect 'units past the end of memory' '42 ff ' "$(units_outside)"
+    expect 'memory' abA "$(cat m)"
     # three records, in bytes: counter 0 in mode 0 with the count 1, two pulses; OUT0 rises once
     printf '\001\023\020\0\0\0\0\0\001\020\001\0\0\0\0\0\005\0\0\0\002\0\0\0' >three
     start feed <three

@@ -607,7 +607,7 @@ transfer() { # MODE BYTE BYTE
     printf 'requests 01\ncycle\ncycle %s\ncycle\ncycle %s\n' "$2" "$3"
 }
 
-trial_lesson_zero_bytes() { # bytes that were moved and are 0 count as moved; 'nothing changed' stands only where no unit went to memory
+trial_lesson_zero_bytes() { # bytes that were moved and are 0 count as moved; 'nothing changed' stands only where no unit arrived in memory
     transfer 44 00 00 >zeros
     transfer 44 00 41 >mixed
     transfer 48 00 00 >reads
@@ -620,6 +620,49 @@ trial_lesson_zero_bytes() { # bytes that were moved and are 0 count as moved; 'n
     start lesson reads
     expect 'cycles that moved a byte from memory' 2 "$(grep -c 'from memory' out)"
     expect 'the last row' 'memory: nothing changed' "$(tail -n 1 out)"
+}
+
+# A lesson in which channel 0, in the given mode, moves three bytes from an address on. In single mode each has a grant before it, in block mode the first.
+three_at() { # MODE HIGH MIDDLE LOW
+    printf 'write %s\n' '21 00' '22 02' '23 00' "24 $4" "25 $3" "26 $2" "2A $1" '2F 0E'
+    printf 'requests 01\ncycle\ncycle 41\ncycle 42\ncycle 43\ncycle 44\ncycle 45\n'
+}
+
+trial_lesson_past_the_end() { # a unit past the end of memory is told in its row, as lost or as FF, and counted at the end; a verified one is not; explain says it by byte 12 of the answer
+    while IFS='|' read -r mode counted inside first last; do
+        three_at "$mode" 00 FF FF >x
+        start lesson x
+        status_is 0
+        row_says "channel 0: $inside channel"
+        row_says "channel 0: $first channel"
+        row_says "channel 0: $last "
+        expect 'the end' "$counted" "$(sed -n '/^records/,/^memory/p' out | sed -n 's/^bytes //p')"
+        awk 'length > 80 { exit 1 }' out || wrong 'columns of a row' '80 at the most' "$(awk 'length > 80' out)"
+    done <<END
+84|lost past the end of memory: 2|41 to memory 00FFFF|42 to memory 010000: past the end of memory, lost|43 to memory 010001: past the end of memory, lost; end, bus free
+44|lost past the end of memory: 2|41 to memory 00FFFF, bus free|43 to memory 010000: past the end of memory, lost; bus free|45 to memory 010001: past the end of memory, lost; end, bus free
+88|read past the end of memory: 2|00 from memory 00FFFF|FF from memory 010000: past the end of memory, reads FF|FF from memory 010001: past the end of memory, reads FF; end, bus free
+48|read past the end of memory: 2|00 from memory 00FFFF, bus free|FF from memory 010000: past the end of memory, reads FF; bus free|FF from memory 010001: past the end of memory, reads FF; end, bus free
+80||verified 00FFFF|verified 010000|verified 010001, end, bus free
+END
+    # where every byte is lost nothing changed; and downwards the last of three arrives
+    three_at 84 10 00 00 >x
+    start lesson x
+    expect 'the end' 'bytes lost past the end of memory: 3 memory: nothing changed' "$(tail -n 2 out | tr '\n' ' ' | sed 's/ $//')"
+    three_at A4 01 00 01 >x
+    start lesson x
+    row_says '42 to memory 010000: past the end of memory, lost channel 0: 43 to memory 00FFFF, end, bus free'
+    # answers by themselves: the address does not tell, and no other number in byte 12 does
+    printf '\0\006\101\0\002\0\0\0\0\0\001\0\001\0\0\0' >answers
+    printf '\0\006\102\0\002\0\001\001\001\0\001\0\001\0\0\0' >>answers
+    printf '\0\006\103\0\002\0\0\001\002\0\001\0\0\0\0\0' >>answers
+    printf '\0\006\104\0\002\0\0\0\003\0\001\0\002\0\0\0' >>answers
+    start lesson explain answers
+    status_is 0
+    row_says '41 at 010000: past the end of memory channel'
+    row_says '42 at 010001: past the end of memory; end, bus free channel'
+    row_says '43 at 010002, bus free channel'
+    row_says '44 at 010003 '
 }
 
 trial_lesson_tapes() { # an empty tape and a cut one are told, with status 1; the whole records of a cut one are shown

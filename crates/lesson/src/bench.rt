@@ -38,6 +38,9 @@ struct Bench {
     kept: [u8; 16],
     records: u64,
     refused: u64,
+    // units past the end of memory, to it and from it
+    lost: u64,
+    unread: u64,
     bad: u64,
     // the temporary file of a tape
     file: i32,
@@ -58,6 +61,8 @@ fn start(mode: u8) -> Bench {
         kept: [0u8; 16],
         records: 0,
         refused: 0,
+        lost: 0,
+        unread: 0,
         bad: 0,
         file: held::NONE,
         more: true,
@@ -128,6 +133,12 @@ fn run_record(
     next.records = text::more(bench.records);
     if a[0] != 0 {
         next.refused = text::more(bench.refused);
+    }
+    if row::is_lost(before, a) {
+        next.lost = text::more(bench.lost);
+    }
+    if row::is_unread(before, a) {
+        next.unread = text::more(bench.unread);
     }
     if print_record(before, bench, r, a) {
         return next;
@@ -465,7 +476,7 @@ fn finish(path: &[u8], bench: Bench, store: &[u8; 65536], marks: &[u8; 65536]) -
         return bench.status;
     }
     if bench.mode < LIST {
-        return print_end(bench.records, bench.refused, store, marks);
+        return print_end(bench, store, marks);
     }
     report::WELL
 }
@@ -479,15 +490,27 @@ fn end_tape(path: &[u8], bench: Bench, tape: &[u8; 65536]) -> u8 {
     judged
 }
 
-fn print_end(records: u64, refused: u64, memory: &[u8; 65536], marks: &[u8; 65536]) -> u8 {
-    let told = sentences::message(0x20, records, refused).put(b'\n');
-    if told.print() {
+fn print_end(bench: Bench, memory: &[u8; 65536], marks: &[u8; 65536]) -> u8 {
+    if print_counts(bench) {
         if words::memory::print(memory, marks) {
             return report::WELL;
         }
         return output::fail();
     }
     output::fail()
+}
+
+fn print_counts(bench: Bench) -> bool {
+    let told = sentences::message(0x20, bench.records, bench.refused).put(b'\n');
+    told.print() && print_some(0x26, bench.lost) && print_some(0x27, bench.unread)
+}
+
+// A count that is told where it is not 0.
+fn print_some(message: u8, n: u64) -> bool {
+    if n == 0 {
+        return true;
+    }
+    sentences::message(message, n, 0).put(b'\n').print()
 }
 
 fn print_title(path: &[u8]) -> bool {

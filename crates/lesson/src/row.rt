@@ -99,19 +99,36 @@ fn unit(board: Board, channel: u8) -> u8 {
     }
 }
 
+// Whether the answer is of a unit that goes one way, to memory or from it.
+fn is_unit(board: Board, a: [u8; 16], way: u8) -> bool {
+    if a[0] != 0 {
+        return false;
+    }
+    answered::done(a[1], a[4], unit(board, a[5]), 1) == way
+}
+
 // The address that the answer's unit was written to; past every memory where none was.
 pub fn written(board: Board, a: [u8; 16]) -> u32 {
-    if a[0] != 0 {
-        return u32::MAX;
-    }
-    let unit = unit(board, a[5]);
-    if unit != TO_MEMORY {
-        return u32::MAX;
-    }
-    if answered::done(a[1], a[4], unit, 1) == TO_MEMORY {
+    if is_unit(board, a, TO_MEMORY) {
         return sentences::four(a, 8);
     }
     u32::MAX
+}
+
+// Whether the answer's unit was written past the end of memory, and is lost.
+pub fn is_lost(board: Board, a: [u8; 16]) -> bool {
+    if answered::is_outside(a) {
+        return is_unit(board, a, TO_MEMORY);
+    }
+    false
+}
+
+// Whether it was read past the end of memory.
+pub fn is_unread(board: Board, a: [u8; 16]) -> bool {
+    if answered::is_outside(a) {
+        return is_unit(board, a, FROM_MEMORY);
+    }
+    false
 }
 
 // Why a record was refused, worked out from the record and the board before it.

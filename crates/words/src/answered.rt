@@ -72,15 +72,20 @@ fn cause_of_low(irr: u8, asked: u8) -> u8 {
     2
 }
 
-// The answer, and where it is to a DMA cycle, how the unit ended and whether it was past the memory.
+// The answer, and where it is to a DMA cycle, how the unit ended, with bit 2 where its address was past the end of memory.
 pub fn facts(a: [u8; 16]) -> [u8; 16] {
     if a[1] != 6 {
         return a;
     }
+    let outside = is_outside(a) as u8;
     let mut f = a;
-    f[12] = end(a[6], a[7]);
-    f[13] = (65535 < sentences::four(a, 8)) as u8;
+    f[12] = end(a[6], a[7]) | outside << 2;
     f
+}
+
+// Whether a unit's address was past the end of memory, as its answer says. Like the end and the free bus it is said by a 1, and by nothing else.
+pub fn is_outside(a: [u8; 16]) -> bool {
+    a[12] == 1
 }
 
 fn end(last: u8, free: u8) -> u8 {

@@ -83,8 +83,8 @@ pub fn asked(n: u8, facts: [u8; 16]) -> Text {
 }
 
 // What was done, and the operation that an answer is to. The facts are the answer; of a unit C says how it ended (1 with its service, 2 as that and as
-// the last one), D whether it is past the memory. 0D and 0E follow the bytes of an acknowledge, with the INT of the chip that answers low or high: E says whether
-// that is the slave, C why its INT is low or the level that it gives, D its highest level in service.
+// the last one), with bit 2 where its address is past the end of memory. 0D and 0E follow the bytes of an acknowledge, with the INT of the chip that
+// answers low or high: E says whether that is the slave, C why its INT is low or the level that it gives, D its highest level in service.
 pub fn answered(n: u8, facts: [u8; 16]) -> Text {
     fill(
         b"
@@ -98,9 +98,9 @@ pub fn answered(n: u8, facts: [u8; 16]) -> Text {
 07 channel %508 gets the bus; no unit
 08 channel %508 leaves the bus; no unit
 09 channel %508: verified @8{C02|, bus free|, end, bus free}
-0A channel %508: $2 to memory @8{D01| (past the memory, lost)}{C02|, bus free|, end, bus free}
-0B channel %508: $2 from memory @8{D01| (past the memory)}{C02|, bus free|, end, bus free}
-0C channel %508: $2 at @8{C02|, bus free|, end, bus free}
+0A channel %508: $2 to memory @8{C21|: past the end of memory, lost}{C03|, bus free|, end, bus free|||; bus free|; end, bus free}
+0B channel %508: $2 from memory @8{C21|: past the end of memory, reads FF}{C03|, bus free|, end, bus free|||; bus free|; end, bus free}
+0C channel %508: $2 at @8{C21|: past the end of memory}{C03|, bus free|, end, bus free|||; bus free|; end, bus free}
 0D :{E01| level 7, but the slave's} INT is low, {C02no level asks|every level that asks is masked|level %D08 is in service and not outranked}; answered as {E01|its }level 7
 0E {E01|: level 7, and the slave gives its level %C08}
 
@@ -240,6 +240,8 @@ pub fn message(n: u8, first: u64, second: u64) -> Text {
 23   and &0 rows more
 24 lesson: the temporary file in /tmp could not be read back
 25 lesson: a temporary file would take the place of standard input, output or error, one of which is closed
+26 bytes lost past the end of memory: &0
+27 bytes read past the end of memory: &0
 ",
         n,
         [0u8; 16],
