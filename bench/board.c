@@ -1,6 +1,7 @@
 /* A plain C board by the project's description of its chips and the decisions in docs/DECISIONS.md: state in one struct that is changed
  * in place, functions over pointers. It is what the bench measures the proved board against, and a third opinion on every answer. (When it was
- * written, the proved board's structs, its loop over pulses and the start of its `intake` had been read, for the header; the code of the chips had not.) */
+ * written, the proved board's structs, its loop over pulses and the start of its `intake` had been read, for the header; the code of the chips had not, but
+ * for that of an answer's byte 12.) */
 #include "board.h"
 
 enum { DONE, BUSY, NO_SUCH, OUT_OF_TURN, NOT_BUILT, COUNT_ONE = 6, REFUSED }; /* 5 is never given */
@@ -503,9 +504,14 @@ static void dma_cycle(struct plain_dma *d, unsigned end, byte device, byte *memo
         answer[2] = device;
         if (at < memory_length)
             memory[at] = device;
+        else
+            answer[12] = 1;
         break;
     case 2:
-        answer[2] = at < memory_length ? memory[at] : 255;
+        if (at < memory_length)
+            answer[2] = memory[at];
+        else
+            answer[2] = 255, answer[12] = 1;
         break;
     }
     unsigned last = c->left == 0 || end;

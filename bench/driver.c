@@ -234,6 +234,30 @@ static void put_cascade(unsigned pulses)
     }
 }
 
+/* Whoever is served, the bus is free after it. */
+static void put_free(void)
+{
+    put(3, 2, 0), put(6, 1, below(256));
+}
+
+/* A channel that begins within four bytes of the memory's end, or of address 0, and cycles for it: each direction, each mode, upwards and downwards, so that
+ * units are inside the memory and outside it, at its last byte and at its length. Most of the time the bus is free before it and after it. */
+static void put_units(length memory_length)
+{
+    unsigned n = below(4), from = (below(4) ? (unsigned)memory_length : 0) + below(9) - 4, cycles = 2 + below(14);
+    if (below(4))
+        put_free();
+    put(1, 0x21, n), put(1, 0x22, below(8)), put(1, 0x23, 0);
+    for (unsigned place = 0; place < 3; place++)
+        put(1, 0x24 + place, from >> 8 * place & 255);
+    put(1, 0x2A, below(3) << 6 | below(4) << 4 | below(3) << 2);
+    put(1, 0x28, below(2) << 4), put(1, 0x2F, 15 ^ 1u << n), put(3, 2, 1u << n);
+    while (cycles--)
+        put(6, below(16) == 0, below(256));
+    if (below(16))
+        put_free();
+}
+
 /* ---- comparison ---- */
 
 static void show(const char *who, const byte *at, int n)
@@ -427,7 +451,24 @@ static void note_slave(const byte *r, const byte *a, const struct plain_board *w
             slaves_withdrawn++;
 }
 
-static void note_requests(length records)
+/* The units, by direction and by where their address was; and those that the answer tells as outside the memory. */
+enum { DIRECTIONS = 3, PLACES = 5 };
+static const char *const directions[DIRECTIONS] = {"verify", "device to memory", "memory to device"};
+static const char *const places[PLACES] = {"before the memory's last byte", "at its last byte", "at its length", "past it", "told as outside"};
+static unsigned long units[DIRECTIONS][PLACES];
+
+/* Before the record is fed. */
+static void note_unit(const byte *r, const byte *a, length memory_length)
+{
+    if (r[0] != 6 || a[0] || a[4] != 2)
+        return;
+    length at = a[8] | (length)a[9] << 8 | (length)a[10] << 16 | (length)a[11] << 24;
+    unsigned long *to = units[plain.dma.channel[a[5]].mode >> 2 & 3];
+    to[at + 1 < memory_length ? 0 : at + 1 == memory_length ? 1 : at == memory_length ? 2 : 3]++;
+    to[4] += a[12];
+}
+
+static void note_records(length records, length memory_length)
 {
     byte answer[16], levels = 0, none = 0;
     length taken;
@@ -439,6 +480,7 @@ static void note_requests(length records)
         if (r[0] == 4 && a[0] == 0)
             note_acknowledge(levels >> 3 & 1);
         int by_slave = note_cascade(r, a, levels >> 3 & 1);
+        note_unit(r, a, memory_length);
         feed_plain(r, 8, &none, 0, answer, 16, &taken);
         note_slave(r, a, &was, by_slave);
         levels = a[3];
@@ -459,12 +501,14 @@ static void compare_random(unsigned long seed, unsigned long tapes)
         size = 0;
         length memory_length = below(3) == 0 ? 0 : below(2) ? below(200) : 70000;
         unsigned wild = below(3) * 4, pulses = below(4) ? 6 : 400, records = 200 + below(3000), timer = below(3) * 40, requests = below(3) * 45;
-        unsigned cascade = below(2) * (50 + below(50));
+        unsigned cascade = below(2) * (50 + below(50)), moves = below(2) * (1 + below(3));
         held = slaves_lines = 0;
         if (below(2))
             set_up();
         while (size < 8 * records)
-            if (below(100) < cascade)
+            if (below(100) < moves)
+                put_units(memory_length);
+            else if (below(100) < cascade)
                 put_cascade(pulses);
             else if (below(100) < requests)
                 put_requests(pulses);
@@ -493,7 +537,7 @@ static void compare_random(unsigned long seed, unsigned long tapes)
             printf("bench: the boards took %lu and %lu records\n", done[0], done[1]), exit(1);
         compare("a random tape", done[0], memory_length);
         compare_boards();
-        note_requests(done[1]);
+        note_records(done[1], memory_length);
         all += done[0];
         for (length i = 0; i < done[0]; i++)
             if (answers[0][16 * i + 1] < 7)
@@ -547,6 +591,16 @@ static void compare_random(unsigned long seed, unsigned long tapes)
     printf("  it stayed high over an acknowledge of a slave's request %lu, INTP7 moved while it was high %lu; edge requests that a line of the slave took back %lu\n",
            stays, parted, slaves_withdrawn);
     printf("  IW3: master's taken %lu, refused %lu, slave's taken %lu, refused %lu\n", third[0][0], third[0][1], third[1][0], third[1][1]);
+    printf("  units:");
+    for (int p = 0; p < PLACES; p++)
+        printf("%s %s", p ? "," : "", places[p]);
+    printf("\n");
+    for (int d = 0; d < DIRECTIONS; d++) {
+        printf("  %s:", directions[d]);
+        for (int p = 0; p < PLACES; p++)
+            printf(" %lu", units[d][p]);
+        printf("\n");
+    }
     printf("  counters after each lump, by mode:");
     for (int s = 0; s < STATES; s++)
         printf("%s %s", s ? "," : "", states[s]);

@@ -151,7 +151,8 @@ limbusagin_bool limbusagin_in_range(struct limbusagin_board board);
  *
  * With k the whole records that the kept bytes and the tape come to, the call writes 16 * k bytes to answers, leaves the rest
  * of that buffer, and answers status 0 and k; up to 7 bytes of a cut record are kept in the board. Memory byte i is address i;
- * addresses at or past the end read FFH and lose writes.
+ * addresses at or past the end, memory_length itself too, read FFH and lose writes. Byte 12 of a DMA cycle's answer is 1 if it moved a unit
+ * to or from such an address, else 0; a verify, which uses no memory, has 0.
  *
  * Status 7 (a field of the board is out of its range, or 16 * k is above answers_length) has records 0, the board as it was passed, and
  * memory and answers untouched: nothing was taken. */

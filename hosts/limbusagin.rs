@@ -231,8 +231,9 @@ impl Board {
     /// One call: the bytes of a tape, in any lump, are fed to the board over the lent memory.
     ///
     /// With k the whole records that the kept bytes and the tape come to, this writes `16 * k` bytes to `answers`, leaves the rest of it, and
-    /// answers `Ok(k)`; up to 7 bytes of a cut record are kept in the board. Memory byte i is address i; addresses at or past the end read
-    /// FFH and lose writes. [`Refused`] leaves the board, the memory and the answers as they were.
+    /// answers `Ok(k)`; up to 7 bytes of a cut record are kept in the board. Memory byte i is address i; addresses at or past the end,
+    /// `memory.len()` itself too, read FFH and lose writes. Byte 12 of a DMA cycle's answer is 1 if it moved a unit to or from such an address,
+    /// else 0; a verify, which uses no memory, has 0. [`Refused`] leaves the board, the memory and the answers as they were.
     pub fn feed(&mut self, tape: &[u8], memory: &mut [u8], answers: &mut [u8]) -> Result<usize, Refused> {
         // Safe: the pointers are those of three live slices, of which Rust sees to it that they do not overlap; a `bool` is 0 or 1; and
         // `Fed` has the library's layout (hosts/run compares it).

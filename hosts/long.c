@@ -1,6 +1,8 @@
-/* long: the board over a memory that is longer than the DMA chip can address: 16,777,216 bytes and 4,096 more. Blocks of four units cross from
- * FFFFFFH to 000000H upwards and downwards, from the device to memory and back. Each unit must be where it has to be with the byte that it has to
- * have, and of the whole memory the four bytes that were written must be the only ones that changed: nothing from 16,777,216 on.
+/* long: the board over a memory that is longer than the DMA chip can address, 16,777,216 bytes and 4,096 more; and over the first 16,777,216 of them, over
+ * one less, and over the first alone. Blocks of four units cross from FFFFFFH to 000000H upwards and downwards, from the device to memory, back, and as verify.
+ * Each unit must be where it has to be with the byte that it has to have. Byte 12 of its answer must say whether its address lay outside what was lent, the
+ * length itself too, and be 0 in a verify. Of the whole memory the bytes that were written must be the only ones that changed: nothing from the length on, and
+ * nothing from 16,777,216 on.
  *
  * The toolchain's compiler comes without C's headers, so the few functions of the C library are declared here. */
 #include "limbusagin.h"
@@ -9,12 +11,21 @@ int printf(const char *, ...);
 int fflush(void *);
 void *malloc(unsigned long);
 
-enum { REACH = 1 << 24, LENGTH = REACH + 4096, BLOCKS = 4, UNITS = 4, RECORDS = BLOCKS * 14 };
+enum { REACH = 1 << 24, LENGTH = REACH + 4096, BLOCKS = 6, UNITS = 4, RECORDS = BLOCKS * 14 };
+enum { FIRST = 9 }; /* the first unit among the fourteen records of a block */
+
+/* What is lent of the memory, and how many units are outside it then. */
+struct part {
+    unsigned long length, outside;
+};
+
+enum { PARTS = 4 };
+static const struct part parts[PARTS] = {{LENGTH, 0}, {REACH, 0}, {REACH - 1, 4}, {1, 12}};
 
 /* Register A: block mode, and which way. */
-enum { UPWARDS = 0x80, DOWNWARDS = 0xA0, TO_MEMORY = 0x04, TO_DEVICE = 0x08 };
+enum { UPWARDS = 0x80, DOWNWARDS = 0xA0, VERIFY = 0x00, TO_MEMORY = 0x04, TO_DEVICE = 0x08, WAYS = 0x0C };
 
-/* A block of four units: its mode, its first address, the bytes that the device has, and what each unit has to be. */
+/* A block of four units: its mode, its first address, the bytes that the device has, and what each unit has to be, where it is inside. */
 struct block {
     unsigned mode, from;
     unsigned char device[UNITS];
@@ -27,6 +38,8 @@ static const struct block blocks[BLOCKS] = {
     {UPWARDS | TO_DEVICE, 0xFFFFFE, {0}, {0xFFFFFE, 0xFFFFFF, 0x000000, 0x000001}, {0xA1, 0xA2, 0xA3, 0xA4}},
     {DOWNWARDS | TO_MEMORY, 0x000001, {0xB1, 0xB2, 0xB3, 0xB4}, {0x000001, 0x000000, 0xFFFFFF, 0xFFFFFE}, {0xB1, 0xB2, 0xB3, 0xB4}},
     {DOWNWARDS | TO_DEVICE, 0x000001, {0}, {0x000001, 0x000000, 0xFFFFFF, 0xFFFFFE}, {0xB1, 0xB2, 0xB3, 0xB4}},
+    {UPWARDS | VERIFY, 0xFFFFFE, {0xC1, 0xC2, 0xC3, 0xC4}, {0xFFFFFE, 0xFFFFFF, 0x000000, 0x000001}, {0}},
+    {DOWNWARDS | VERIFY, 0x000001, {0xC1, 0xC2, 0xC3, 0xC4}, {0x000001, 0x000000, 0xFFFFFF, 0xFFFFFE}, {0}},
 };
 
 static unsigned char tape[RECORDS * LIMBUSAGIN_RECORD];
@@ -63,17 +76,61 @@ static unsigned char pattern(unsigned long i)
     return (unsigned char)(i * 7 + i / 256 * 3 + i / 65536);
 }
 
+static unsigned long lent; /* the length of the part that is lent */
 static int is_wrong;
 
 static void check(int good, const char *what, unsigned long where, unsigned got)
 {
     if (!good)
-        printf("long: %s, at %lu: %02X\n", what, where, got), is_wrong = 1;
+        printf("long: with length %lu lent: %s, at %lu: %02X\n", lent, what, where, got), is_wrong = 1;
 }
 
 static unsigned address_of(const unsigned char *answer)
 {
     return answer[8] | (unsigned)answer[9] << 8 | (unsigned)answer[10] << 16 | (unsigned)answer[11] << 24;
+}
+
+/* One unit of a block; whether it is outside. */
+static unsigned long check_unit(const struct block *b, int i, unsigned long unit, const unsigned char *answer)
+{
+    unsigned address = b->address[i], way = b->mode & WAYS;
+    int is_outside = way != VERIFY && address >= lent;
+    check(answer[4] == 2, "a cycle moved no unit", unit, answer[4]);
+    check(answer[6] == (i == UNITS - 1), "a block does not end with its fourth unit", unit, answer[6]);
+    check(address_of(answer) == address, "a unit is at another address", unit, address_of(answer));
+    check(answer[2] == (is_outside && way == TO_DEVICE ? 0xFF : b->data[i]), "a unit has another byte", unit, answer[2]);
+    check(answer[12] == is_outside, "byte 12 does not say where a unit was", unit, answer[12]);
+    return (unsigned long)is_outside;
+}
+
+static void run(unsigned char *memory, struct part part)
+{
+    lent = part.length;
+    for (unsigned long i = 0; i < LENGTH; i++)
+        memory[i] = pattern(i);
+    struct limbusagin_fed fed = limbusagin_feed(limbusagin_fresh(), tape, size, memory, lent, answers, sizeof answers);
+    check(fed.status == 0 && fed.records == RECORDS, "the call was not taken whole", fed.records, fed.status);
+    unsigned long outside = 0;
+    for (unsigned long r = 0; r < RECORDS; r++) {
+        const unsigned char *answer = answers + r * LIMBUSAGIN_ANSWER;
+        int b = (int)r / 14, i = (int)r % 14 - FIRST;
+        check(answer[0] == 0, "a record was refused", r, answer[0]);
+        if (i >= 0 && i < UNITS)
+            outside += check_unit(&blocks[b], i, (unsigned long)(b * UNITS + i), answer);
+        else
+            check(answer[12] == 0, "byte 12 is set, and no unit moved", r, answer[12]);
+    }
+    check(outside == part.outside, "so many units are outside", outside, 0);
+    unsigned long others = 0;
+    for (unsigned long i = 0; i < LENGTH; i++) {
+        int written = 0;
+        for (int u = 0; u < UNITS; u++)
+            if (i == blocks[2].address[u] && i < lent)
+                check(memory[i] == blocks[2].data[u], "memory has another byte", i, memory[i]), written = 1;
+        if (!written && memory[i] != pattern(i) && others++ < 10)
+            check(0, i >= lent ? "a byte that was not lent changed" : i < REACH ? "a byte changed that no unit was at" : "a byte past the address lines changed",
+                  i, memory[i]);
+    }
 }
 
 int main(void)
@@ -83,35 +140,13 @@ int main(void)
         printf("long: no memory left\n");
         return 1;
     }
-    for (unsigned long i = 0; i < LENGTH; i++)
-        memory[i] = pattern(i);
     for (int b = 0; b < BLOCKS; b++)
         put_block(blocks[b]);
-    struct limbusagin_fed fed = limbusagin_feed(limbusagin_fresh(), tape, size, memory, LENGTH, answers, sizeof answers);
-    check(fed.status == 0 && fed.records == RECORDS, "the call was not taken whole", fed.records, fed.status);
-    for (unsigned long r = 0; r < RECORDS; r++)
-        check(answers[r * LIMBUSAGIN_ANSWER] == 0, "a record was refused", r, answers[r * LIMBUSAGIN_ANSWER]);
-    for (int b = 0; b < BLOCKS; b++)
-        for (int i = 0; i < UNITS; i++) {
-            const unsigned char *answer = answers + (b * 14 + 9 + i) * LIMBUSAGIN_ANSWER;
-            unsigned long unit = (unsigned long)(b * UNITS + i);
-            check(answer[4] == 2, "a cycle moved no unit", unit, answer[4]);
-            check(answer[6] == (i == UNITS - 1), "a block does not end with its fourth unit", unit, answer[6]);
-            check(address_of(answer) == blocks[b].address[i], "a unit is at another address", unit, address_of(answer));
-            check(answer[2] == blocks[b].data[i], "a unit has another byte", unit, answer[2]);
-        }
-    unsigned long others = 0;
-    for (unsigned long i = 0; i < LENGTH; i++) {
-        int written = 0;
-        for (int u = 0; u < UNITS; u++)
-            if (i == blocks[2].address[u])
-                check(memory[i] == blocks[2].data[u], "memory has another byte", i, memory[i]), written = 1;
-        if (!written && memory[i] != pattern(i) && others++ < 10)
-            check(0, i < REACH ? "a byte changed that no unit was at" : "a byte past the address lines changed", i, memory[i]);
-    }
-    if (!is_wrong)
-        printf("long memory: %d bytes lent; %d units across FFFFFFH and 000000H, to memory and from it; no other byte changed, and none from %d on\n",
-               LENGTH, BLOCKS * UNITS, REACH);
+    for (int p = 0; p < PARTS; p++)
+        run(memory, parts[p]);
+    for (int p = 0; !is_wrong && p < PARTS; p++)
+        printf("long memory: length %lu lent; %d units across FFFFFFH and 000000H, %lu of them told as outside; no other byte changed, and none from %lu on\n",
+               parts[p].length, BLOCKS * UNITS, parts[p].outside, parts[p].length < REACH ? parts[p].length : REACH);
     fflush(0);
     return is_wrong;
 }

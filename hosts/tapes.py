@@ -145,6 +145,24 @@ def slave(seed, n):
     return b"".join(out)
 
 
+def outside(length):
+    """Blocks of six units across the memory's end, and across FFFFFFH: each direction, mode and way, with what the channel is at after each. A unit at the
+    last byte is inside; one at the length, or further, is outside."""
+    out = []
+    for end in (length, 1 << 24):
+        for direction in (0x00, 0x04, 0x08):
+            for mode in (0x00, 0x40, 0x80):
+                for falls in (0x00, 0x20):
+                    first = (end + 2 if falls else end - 3) % (1 << 24)
+                    out += [record(1, 0x22, 5), record(1, 0x23, 0)]
+                    out += [record(1, 0x24 + i, first >> 8 * i & 255) for i in range(3)]
+                    out += [record(1, 0x2A, mode | falls | direction), record(1, 0x2F, 0x0E), record(3, 2, 1)]
+                    # in single, a grant before each unit; a cycle too many moves nothing
+                    out += [record(6, 0, 0x40 + i) for i in range(13 if mode == 0x40 else 8)]
+                    out += [record(3, 2, 0)] + [record(2, 0x22 + i) for i in range(5)] + [record(2, 0x2B)]
+    return b"".join(out)
+
+
 def main(folder):
     os.makedirs(folder, exist_ok=True)
     r = random.Random(71)
@@ -171,6 +189,7 @@ def main(folder):
         "block": (
             record(1, 0x2A, 0x84) + record(1, 0x23, 0x10) + record(1, 0x2F, 0x0E) + record(3, 2, 1)
             + b"".join(record(6, 0, i & 255) for i in range(4100)), 4000),
+        "outside": (outside(1000), 1000),
     }
     for name, (tape, memory) in tapes.items():
         with open(os.path.join(folder, name + ".tape"), "wb") as f:
