@@ -134,10 +134,10 @@ fn run_record(
     if a[0] != 0 {
         next.refused = text::more(bench.refused);
     }
-    if row::is_lost(before, a) {
+    if row::is_past_the_end(before, a, row::TO_MEMORY) {
         next.lost = text::more(bench.lost);
     }
-    if row::is_unread(before, a) {
+    if row::is_past_the_end(before, a, row::FROM_MEMORY) {
         next.unread = text::more(bench.unread);
     }
     if print_record(before, bench, r, a) {

@@ -83,9 +83,9 @@ fn lines_of(board: Board) -> u8 {
 
 const VERIFIED: u8 = 0x09;
 
-const TO_MEMORY: u8 = 0x0a;
+pub const TO_MEMORY: u8 = 0x0a;
 
-const FROM_MEMORY: u8 = 0x0b;
+pub const FROM_MEMORY: u8 = 0x0b;
 
 // The sentence for a unit of a channel.
 fn unit(board: Board, channel: u8) -> u8 {
@@ -107,28 +107,17 @@ fn is_unit(board: Board, a: [u8; 16], way: u8) -> bool {
     answered::done(a[1], a[4], unit(board, a[5]), 1) == way
 }
 
+// Whether it is, and the unit was past the end of memory: one to memory is lost, one from it reads FF.
+pub fn is_past_the_end(board: Board, a: [u8; 16], way: u8) -> bool {
+    answered::is_outside(a) && is_unit(board, a, way)
+}
+
 // The address that the answer's unit was written to; past every memory where none was.
 pub fn written(board: Board, a: [u8; 16]) -> u32 {
     if is_unit(board, a, TO_MEMORY) {
         return sentences::four(a, 8);
     }
     u32::MAX
-}
-
-// Whether the answer's unit was written past the end of memory, and is lost.
-pub fn is_lost(board: Board, a: [u8; 16]) -> bool {
-    if answered::is_outside(a) {
-        return is_unit(board, a, TO_MEMORY);
-    }
-    false
-}
-
-// Whether it was read past the end of memory.
-pub fn is_unread(board: Board, a: [u8; 16]) -> bool {
-    if answered::is_outside(a) {
-        return is_unit(board, a, FROM_MEMORY);
-    }
-    false
 }
 
 // Why a record was refused, worked out from the record and the board before it.
