@@ -7,7 +7,6 @@ use rival::counts::Tally;
 use rival::modes;
 use rival::modes::Modes;
 use rival::places;
-use rival::places::Places;
 use rival::requests;
 use rival::requests::Requests;
 use rival::show;
@@ -54,7 +53,7 @@ pub struct Counted {
     modes: Modes,
     requests: Requests,
     slave: Slave,
-    pub places: Places,
+    pub places: Tally,
 }
 
 fn fill(memory: &mut Memory, seed: u32) {
@@ -229,7 +228,7 @@ fn none_yet() -> Counted {
         modes: modes::zero(),
         requests: requests::zero(),
         slave: slave::zero(),
-        places: places::zero(),
+        places: counts::zero(),
     }
 }
 

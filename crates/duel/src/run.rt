@@ -8,7 +8,6 @@ use rival::counts::Tally;
 use rival::modes;
 use rival::notation;
 use rival::notation::Line;
-use rival::places;
 use rival::requests;
 use rival::show;
 use rival::slave;
@@ -169,7 +168,7 @@ fn both_agree(tape: &Tape, typed: &Answers, n: usize, number: u32) -> bool {
             modes::zero(),
             requests::zero(),
             slave::zero(),
-            places::zero(),
+            counts::zero(),
         ),
         tape,
         n,

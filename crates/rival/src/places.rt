@@ -1,29 +1,16 @@
 // Where units lie: inside the lent memory or outside it, by their direction. Counted by the address in a unit's answer, by the second board's mode of its channel
 // and by the memory's length. What the answer says of the place, its byte 12, is held against that. docs/DUEL.md has the words.
+use crate::counts;
+use crate::counts::Tally;
 use crate::show;
 use libc::STDOUT_FILENO;
 use second::State;
 
 // The counts, in the order in which they are printed: four for each direction, and the units whose byte 12 says otherwise.
-pub struct Places {
-    n: [u64; 32],
-}
-
 const OTHERWISE: usize = 12;
 
-pub fn zero() -> Places {
-    Places { n: [0; 32] }
-}
-
-fn add(places: Places, place: usize, n: u32) -> Places {
-    let at = place % 32;
-    let mut next = places;
-    next.n[at] = places.n[at] % 4294967296 + n as u64;
-    next
-}
-
-fn number(b: bool) -> u32 {
-    second::choose(b, 1, 0)
+fn add_if(places: Tally, place: usize, b: bool) -> Tally {
+    counts::add(places, place, b as u64)
 }
 
 // The first count of a direction: to memory, from memory, verified.
@@ -32,20 +19,20 @@ fn row_of(direction: u32) -> usize {
 }
 
 // Inside, and at the memory's last byte; outside, and at the address that is its length.
-fn count_place(places: Places, row: usize, at: usize, length: usize) -> Places {
+fn count_place(places: Tally, row: usize, at: usize, length: usize) -> Tally {
     let first = row % 16;
     if at < length {
-        return add(add(places, first, 1), first + 1, number(at + 1 == length));
+        return add_if(counts::add(places, first, 1), first + 1, at + 1 == length);
     }
-    add(add(places, first + 2, 1), first + 3, number(at == length))
+    add_if(counts::add(places, first + 2, 1), first + 3, at == length)
 }
 
-fn count_unit(places: Places, direction: u32, at: usize, length: usize, told: u8) -> Places {
+fn count_unit(places: Tally, direction: u32, at: usize, length: usize, told: u8) -> Tally {
     let outside = (direction != 0) & (at >= length);
-    add(
+    add_if(
         count_place(places, row_of(direction), at, length),
         OTHERWISE,
-        number(second::wide(told) != number(outside)),
+        told != outside as u8,
     )
 }
 
@@ -57,7 +44,7 @@ fn address_of(low: u8, middle: u8, high: u8, top: u8) -> u32 {
 }
 
 // The board before a record, the memory's length, and the record's answer.
-pub fn count_record(places: Places, before: State, length: usize, answer: [u8; 16]) -> Places {
+pub fn count_record(places: Tally, before: State, length: usize, answer: [u8; 16]) -> Tally {
     if (answer[0] != 0) | (answer[1] != 6) | (answer[4] != 2) {
         return places;
     }
@@ -72,11 +59,11 @@ pub fn count_record(places: Places, before: State, length: usize, answer: [u8; 1
 }
 
 // How many units said otherwise.
-pub fn otherwise(places: Places) -> u64 {
-    places.n[OTHERWISE]
+pub fn otherwise(places: Tally) -> u64 {
+    counts::at(places, OTHERWISE)
 }
 
-pub fn print_all(places: Places) -> bool {
+pub fn print_all(places: Tally) -> bool {
     let numbers = places.n;
     show::fill(
         STDOUT_FILENO,

@@ -1,9 +1,9 @@
 // A stretch of tape: 64 records at most, with room for their answers. Both boards run it. `differ_at` holds answers against answers and `first_apart`
 // memory against memory; nothing else compares the boards.
+use crate::counts::Tally;
 use crate::modes;
 use crate::modes::Modes;
 use crate::places;
-use crate::places::Places;
 use crate::requests;
 use crate::requests::Requests;
 use crate::slave;
@@ -140,11 +140,11 @@ pub struct Ran {
     pub modes: Modes,
     pub requests: Requests,
     pub slave: Slave,
-    pub places: Places,
+    pub places: Tally,
 }
 
 // The second board from reset, with the counts so far.
-pub fn from_reset(modes: Modes, requests: Requests, slave: Slave, places: Places) -> Ran {
+pub fn from_reset(modes: Modes, requests: Requests, slave: Slave, places: Tally) -> Ran {
     let s = second::second_reset();
     Ran {
         s: s,
