@@ -7,6 +7,7 @@
 enum { DONE, BUSY, NO_SUCH, OUT_OF_TURN, NOT_BUILT, COUNT_ONE = 6, REFUSED }; /* 5 is never given */
 enum { NO_MODE = 255, NOBODY = 255, NO_LEVEL = 8 };
 enum { MASTERS_IW3 = 0x80, SLAVES_IW3 = 0x07 }; /* a slave on line 7; the slave on line 7 */
+enum { WORDS = 0x01, WAYS = 0x0C, TO_MEMORY = 0x04, TO_DEVICE = 0x08 }; /* of a channel's mode: its units, and which way they go */
 
 /* ---- the interrupt chips ---- */
 
@@ -402,11 +403,12 @@ static int dma_write(struct plain_dma *d, unsigned reg, unsigned data)
 {
     struct plain_channel *c = &d->channel[d->select];
     switch (reg) {
-    case 0x0:
-        if (data & 2)
-            return NOT_BUILT;
+    case 0x0: /* the wide bus stays while a channel has words, unless all are reset */
         if (data & 1)
             dma_reset(d);
+        else if (!(data & 2) && (d->channel[0].mode | d->channel[1].mode | d->channel[2].mode | d->channel[3].mode) & 1)
+            return NOT_BUILT;
+        d->wide = data >> 1 & 1;
         return DONE;
     case 0x1:
         d->select = data & 3;
@@ -436,7 +438,7 @@ static int dma_write(struct plain_dma *d, unsigned reg, unsigned data)
     case 0x9:
         return data ? NOT_BUILT : DONE;
     case 0xA:
-        if (data & 3 || (data & 0xC0) == 0xC0 || (data & 0x0C) == 0x0C)
+        if (data & 2 || (data & 1) > d->wide || (data & 0xC0) == 0xC0 || (data & 0x0C) == 0x0C)
             return NOT_BUILT;
         c->mode = (byte)data;
         return DONE;
@@ -473,7 +475,55 @@ static inline void stop_service(struct plain_dma *d)
     d->owner = NOBODY;
 }
 
-static void dma_cycle(struct plain_dma *d, unsigned end, byte device, byte *memory, length memory_length, byte *answer)
+static inline void move_byte(unsigned way, const byte *r, word at, byte *memory, length memory_length, byte *answer)
+{
+    switch (way) {
+    case TO_MEMORY:
+        answer[2] = r[2];
+        if (at < memory_length)
+            memory[at] = r[2];
+        else
+            answer[12] = 1;
+        break;
+    case TO_DEVICE:
+        if (at < memory_length)
+            answer[2] = memory[at];
+        else
+            answer[2] = 255, answer[12] = 1;
+        break;
+    }
+}
+
+/* A word is the pair from an even address on; at an odd address it is the one that this is the upper half of. If the upper half is there, the lower is too. */
+static inline void move_word(unsigned way, const byte *r, word at, byte *memory, length memory_length, byte *answer)
+{
+    word even = at & ~1u, odd = at | 1;
+    switch (way) {
+    case TO_MEMORY:
+        answer[2] = r[2];
+        answer[13] = r[3];
+        if (odd < memory_length) {
+            memory[even] = r[2];
+            memory[odd] = r[3];
+        } else {
+            answer[12] = 1;
+            if (even < memory_length)
+                memory[even] = r[2];
+        }
+        break;
+    case TO_DEVICE:
+        if (odd < memory_length) {
+            answer[2] = memory[even];
+            answer[13] = memory[odd];
+        } else {
+            answer[2] = even < memory_length ? memory[even] : 255;
+            answer[13] = 255, answer[12] = 1;
+        }
+        break;
+    }
+}
+
+static void dma_cycle(struct plain_dma *d, const byte *r, byte *memory, length memory_length, byte *answer)
 {
     if (d->owner == NOBODY) {
         unsigned asks = d->requests & ~(unsigned)d->masked;
@@ -496,38 +546,30 @@ static void dma_cycle(struct plain_dma *d, unsigned end, byte device, byte *memo
         stop_service(d);
         return;
     }
-    word at = c->address;
+    word at = c->address, step = 1;
+    unsigned mode = c->mode;
     answer[4] = 2;
     put32(answer + 8, at);
-    switch (c->mode >> 2 & 3) {
-    case 1:
-        answer[2] = device;
-        if (at < memory_length)
-            memory[at] = device;
-        else
-            answer[12] = 1;
-        break;
-    case 2:
-        if (at < memory_length)
-            answer[2] = memory[at];
-        else
-            answer[2] = 255, answer[12] = 1;
-        break;
+    if (mode & WORDS) {
+        move_word(mode & WAYS, r, at, memory, memory_length, answer);
+        step = 2;
+    } else {
+        move_byte(mode & WAYS, r, at, memory, memory_length, answer);
     }
-    unsigned last = c->left == 0 || end;
-    c->address = (c->mode & 0x20 ? at - 1 : at + 1) & 0xFFFFFF;
+    unsigned last = c->left == 0 || r[1];
+    c->address = (mode & 0x20 ? at - step : at + step) & 0xFFFFFF;
     c->left--;
     if (last) {
         answer[6] = 1;
         d->ended |= (byte)(1u << n);
-        if (c->mode & 0x10) {
+        if (mode & 0x10) {
             c->address = c->base_address;
             c->left = c->base_left;
         } else {
             d->masked |= (byte)(1u << n);
         }
     }
-    if (last || c->mode >> 6 == 1) {
+    if (last || mode >> 6 == 1) {
         answer[7] = 1;
         stop_service(d);
     }
@@ -571,7 +613,7 @@ static inline int well_formed(const byte *r)
     case 5:
         return (all & 0xFFFFFF00) == 0 && all >> 48 == 0;
     case 6:
-        return all >> 24 == 0 && r[1] <= 1;
+        return all >> 32 == 0 && r[1] <= 1;
     }
     return 0;
 }
@@ -638,7 +680,7 @@ static inline int obey(struct plain_board *b, const byte *r, byte *memory, lengt
         advance(b, (word)(r[4] | r[5] << 8), answer);
         break;
     case 6:
-        dma_cycle(&b->dma, r[1], r[2], memory, memory_length, answer);
+        dma_cycle(&b->dma, r, memory, memory_length, answer);
         break;
     }
     return status;
@@ -671,9 +713,9 @@ static int in_range(const struct plain_board *b)
     for (int i = 0; i < 4; i++) {
         const struct plain_channel *c = &d->channel[i];
         good = good && c->address < 1u << 24 && c->base_address < 1u << 24;
-        good = good && !(c->mode & 3) && (c->mode & 0xC0) != 0xC0 && (c->mode & 0x0C) != 0x0C;
+        good = good && !(c->mode & 2) && (c->mode & 0xC0) != 0xC0 && (c->mode & 0x0C) != 0x0C;
     }
-    good = good && d->select < 4 && (d->only_base | d->rotate | d->off) < 2 && d->first < 4 && (d->owner < 4 || d->owner == NOBODY);
+    good = good && d->select < 4 && (d->wide | d->only_base | d->rotate | d->off) < 2 && d->first < 4 && (d->owner < 4 || d->owner == NOBODY);
     return good && d->requests < 16 && d->ended < 16 && d->masked < 16 && b->waits < 8;
 }
 

@@ -37,11 +37,12 @@ struct plain_counter {
 struct plain_channel {
     word address, base_address;
     half left, base_left;
-    byte mode;
+    byte mode;    /* D0: its units are words */
 };
 
 struct plain_dma {
     struct plain_channel channel[4];
+    byte wide;    /* the bus has 16 bits */
     byte select, only_base, rotate, off, first;
     byte owner;   /* the channel served, or NOBODY */
     byte requests, ended, masked;

@@ -24,7 +24,7 @@ struct moment {
 };
 int clock_gettime(int, struct moment *);
 
-enum { MOST = 1000000, MEMORY = 1 << 20, PROCESS_TIME = 2 };
+enum { MOST = 1000000, MEMORY = 1 << 20, BEHIND = 16, PROCESS_TIME = 2 };
 
 static byte *tape, *answers[2], *memory[2], *start_memory;
 
@@ -78,6 +78,12 @@ static void put_advance(unsigned n)
 {
     put(5, 0, 0);
     memcpy(tape + size - 4, &n, 4);
+}
+
+static void put_cycle(unsigned end, unsigned lower, unsigned upper)
+{
+    put(6, end, lower);
+    tape[size - 5] = (byte)upper;
 }
 
 static void set_up(void) /* interrupt chip ready, edge trigger, vectors */
@@ -240,22 +246,72 @@ static void put_free(void)
     put(3, 2, 0), put(6, 1, below(256));
 }
 
-/* A channel that begins within four bytes of the memory's end, or of address 0, and cycles for it: each direction, each mode, upwards and downwards, so that
- * units are inside the memory and outside it, at its last byte and at its length. Most of the time the bus is free before it and after it. */
-static void put_units(length memory_length)
+/* A write to the DMA chip's register 0: the wide bus most of the time; now and then the narrow one, or a reset. */
+static void put_bus(void)
 {
-    unsigned n = below(4), from = (below(4) ? (unsigned)memory_length : 0) + below(9) - 4, cycles = 2 + below(14);
-    if (below(4))
-        put_free();
-    put(1, 0x21, n), put(1, 0x22, below(8)), put(1, 0x23, 0);
+    unsigned k = below(16);
+    put(1, 0x20, (below(256) & 0xFC) | (k < 12 ? 2 : k < 15 ? 0 : 1 + below(2) * 2));
+}
+
+/* A mode, of bytes or of words; one in sixteen has the bit between, and is refused. */
+static void put_mode(unsigned words)
+{
+    put(1, 0x2A, below(3) << 6 | below(4) << 4 | below(3) << 2 | (below(16) == 0) << 1 | words);
+}
+
+/* Where a channel begins: within four bytes of the memory's end, or of address 0. */
+static void put_address(length memory_length)
+{
+    unsigned from = (below(4) ? (unsigned)memory_length : 0) + below(9) - 4;
     for (unsigned place = 0; place < 3; place++)
         put(1, 0x24 + place, from >> 8 * place & 255);
-    put(1, 0x2A, below(3) << 6 | below(4) << 4 | below(3) << 2);
+}
+
+/* A channel that begins there, and cycles for it: bytes and words, each direction, each mode, upwards and downwards, so that units are inside the memory and
+ * outside it, at its last byte and at its length, and words half outside it. Most of the time the bus is free before it and after it, and wide where words are to
+ * be moved. */
+static void put_units(length memory_length)
+{
+    unsigned n = below(4), words = below(2), cycles = 2 + below(14);
+    if (below(4))
+        put_free();
+    if (words)
+        put_bus();
+    put(1, 0x21, n), put(1, 0x22, below(8)), put(1, 0x23, 0);
+    put_address(memory_length);
+    put_mode(words);
     put(1, 0x28, below(2) << 4), put(1, 0x2F, 15 ^ 1u << n), put(3, 2, 1u << n);
     while (cycles--)
-        put(6, below(16) == 0, below(256));
+        put_cycle(below(16) == 0, below(256), below(256));
     if (below(16))
         put_free();
+}
+
+/* One record for the DMA chip, or an address: four channels at work, of bytes and of words, on a bus that is wide or narrow. */
+static void put_channels(length memory_length)
+{
+    unsigned k = below(32);
+    switch (k) {
+    case 0: put_bus(); break;
+    case 1: put(1, 0x20, 0); break;
+    case 2:
+    case 3: put(1, 0x21, below(8)); break;
+    case 4:
+    case 5: put(1, 0x22 + below(2), below(2)); break;
+    case 6:
+    case 7: put_address(memory_length); break;
+    case 8:
+    case 9:
+    case 10: put_mode(below(3) != 0); break;
+    case 11: put(1, 0x28, below(2) << 4 | (below(8) == 0) << 2); break;
+    case 12: put(1, 0x2F, below(4) ? 0 : below(16)); break;
+    case 13:
+    case 14: put(3, 2, below(16)); break;
+    case 15:
+    case 16: put(2, 0x21 + below(15), 0); break;
+    case 17: put_free(); break;
+    default: put_cycle(below(16) == 0, below(256), below(256));
+    }
 }
 
 /* ---- comparison ---- */
@@ -284,6 +340,17 @@ static void compare(const char *what, length records, length memory_length)
             printf("bench: the boards differ on %s in memory at %lu: proved %02x, plain %02x\n", what, i, memory[0][i], memory[1][i]);
             exit(1);
         }
+}
+
+/* The bytes behind the lent memory are as they were. */
+static void compare_behind(length memory_length)
+{
+    for (int who = 0; who < 2; who++)
+        for (length i = memory_length; i < memory_length + BEHIND; i++)
+            if (memory[who][i] != start_memory[i]) {
+                printf("bench: after a random tape on %lu bytes of memory, the %s board changed the byte at %lu\n", memory_length, who ? "plain" : "proved", i);
+                exit(1);
+            }
 }
 
 static void same(const char *what, unsigned long is, unsigned long plainly)
@@ -328,6 +395,7 @@ static void compare_boards(void)
     }
     const struct limbusagin_dma *d = &proved.dma;
     const struct plain_dma *e = &plain.dma;
+    same("the width of the bus", d->wide, e->wide);
     for (int i = 0; i < 4; i++) {
         const struct limbusagin_channel *c = &d->channels[i];
         const struct plain_channel *p = &e->channel[i];
@@ -451,21 +519,50 @@ static void note_slave(const byte *r, const byte *a, const struct plain_board *w
             slaves_withdrawn++;
 }
 
-/* The units, by direction and by where their address was; and those that the answer tells as outside the memory. */
-enum { DIRECTIONS = 3, PLACES = 5 };
+/* The units of bytes, by direction and by where their address was; those of words, by direction and by where their pair was, and at which address and which
+ * way they came there; and those that the answer tells as outside the memory. A word is half outside where its lower byte is the memory's last one. */
+enum { DIRECTIONS = 3, PLACES = 5, PAIRS = 10 };
 static const char *const directions[DIRECTIONS] = {"verify", "device to memory", "memory to device"};
 static const char *const places[PLACES] = {"before the memory's last byte", "at its last byte", "at its length", "past it", "told as outside"};
-static unsigned long units[DIRECTIONS][PLACES];
+static const char *const pairs[PAIRS] = {"before the memory's last pair", "at its last pair", "half outside upwards", "half outside downwards", "past its length", "at its length",
+                                         "told as outside", "at an odd address", "at FFFFFEH or FFFFFFH", "at 000000H or 000001H"};
+static unsigned long units[DIRECTIONS][PLACES], word_units[DIRECTIONS][PAIRS];
+
+/* What became of the width: writes to register 0, modes, and cycles whose upper byte nobody used. */
+enum { BUS_RESET, BUS_RESET_WIDE, BUS_WIDE, BUS_NARROW, BUS_REFUSED, MODE_OF_WORDS, MODE_REFUSED, UPPER_UNUSED, WIDTHS };
+static const char *const widths[WIDTHS] = {"reset", "reset to the wide bus", "wide", "narrow", "narrow refused", "modes of words", "modes of words refused on the narrow bus",
+                                           "upper bytes that were not used"};
+static unsigned long width[WIDTHS];
 
 /* Before the record is fed. */
 static void note_unit(const byte *r, const byte *a, length memory_length)
 {
-    if (r[0] != 6 || a[0] || a[4] != 2)
+    if (r[0] != 6 || a[0])
         return;
-    length at = a[8] | (length)a[9] << 8 | (length)a[10] << 16 | (length)a[11] << 24;
-    unsigned long *to = units[plain.dma.channel[a[5]].mode >> 2 & 3];
-    to[at + 1 < memory_length ? 0 : at + 1 == memory_length ? 1 : at == memory_length ? 2 : 3]++;
-    to[4] += a[12];
+    unsigned mode = a[4] == 2 ? plain.dma.channel[a[5]].mode : 0;
+    width[UPPER_UNUSED] += r[3] != 0 && (mode & 0x0D) != 0x05;
+    if (a[4] != 2)
+        return;
+    length at = a[8] | (length)a[9] << 8 | (length)a[10] << 16 | (length)a[11] << 24, end = (at | 1) + 1;
+    if (!(mode & 1)) {
+        unsigned long *to = units[mode >> 2 & 3];
+        to[at + 1 < memory_length ? 0 : at + 1 == memory_length ? 1 : at == memory_length ? 2 : 3]++;
+        to[4] += a[12];
+        return;
+    }
+    unsigned long *to = word_units[mode >> 2 & 3];
+    to[end <= memory_length ? end == memory_length : end == memory_length + 1 ? 2 + (mode >> 5 & 1) : 4 + (end == memory_length + 2)]++;
+    to[6] += a[12], to[7] += at & 1, to[8] += at >= 0xFFFFFE, to[9] += at < 2;
+}
+
+static void note_width(const byte *r, const byte *a)
+{
+    if (r[0] != 1 || (a[0] != 0 && a[0] != 4))
+        return;
+    if (r[1] == 0x20)
+        width[r[2] & 1 ? BUS_RESET + (r[2] >> 1 & 1) : r[2] & 2 ? BUS_WIDE : a[0] ? BUS_REFUSED : BUS_NARROW]++;
+    if (r[1] == 0x2A && r[2] & 1)
+        width[a[0] == 0 ? MODE_OF_WORDS : MODE_REFUSED] += a[0] == 0 || !(r[2] & 2 || r[2] >> 6 == 3 || (r[2] >> 2 & 3) == 3);
 }
 
 static void note_records(length records, length memory_length)
@@ -481,6 +578,7 @@ static void note_records(length records, length memory_length)
             note_acknowledge(levels >> 3 & 1);
         int by_slave = note_cascade(r, a, levels >> 3 & 1);
         note_unit(r, a, memory_length);
+        note_width(r, a);
         feed_plain(r, 8, &none, 0, answer, 16, &taken);
         note_slave(r, a, &was, by_slave);
         levels = a[3];
@@ -499,15 +597,17 @@ static void compare_random(unsigned long seed, unsigned long tapes)
         state = seed * 1000003 + n;
         below(2);
         size = 0;
-        length memory_length = below(3) == 0 ? 0 : below(2) ? below(200) : 70000;
+        length memory_length = below(3) == 0 ? 0 : below(2) ? below(200) : 70000 + below(2);
         unsigned wild = below(3) * 4, pulses = below(4) ? 6 : 400, records = 200 + below(3000), timer = below(3) * 40, requests = below(3) * 45;
-        unsigned cascade = below(2) * (50 + below(50)), moves = below(2) * (1 + below(3));
+        unsigned cascade = below(2) * (50 + below(50)), moves = below(2) * (1 + below(3)), channels = below(3) * 20;
         held = slaves_lines = 0;
         if (below(2))
             set_up();
         while (size < 8 * records)
             if (below(100) < moves)
                 put_units(memory_length);
+            else if (below(100) < channels)
+                put_channels(memory_length);
             else if (below(100) < cascade)
                 put_cascade(pulses);
             else if (below(100) < requests)
@@ -517,7 +617,7 @@ static void compare_random(unsigned long seed, unsigned long tapes)
             else
                 put_mixed(wild, pulses);
         size -= below(8);
-        memcpy(memory[0], start_memory, memory_length), memcpy(memory[1], start_memory, memory_length);
+        memcpy(memory[0], start_memory, memory_length + BEHIND), memcpy(memory[1], start_memory, memory_length + BEHIND);
         fresh();
         length done[2] = {0, 0};
         for (int who = 0; who < 2; who++)
@@ -536,6 +636,7 @@ static void compare_random(unsigned long seed, unsigned long tapes)
         if (done[0] != done[1])
             printf("bench: the boards took %lu and %lu records\n", done[0], done[1]), exit(1);
         compare("a random tape", done[0], memory_length);
+        compare_behind(memory_length);
         compare_boards();
         note_records(done[1], memory_length);
         all += done[0];
@@ -591,7 +692,7 @@ static void compare_random(unsigned long seed, unsigned long tapes)
     printf("  it stayed high over an acknowledge of a slave's request %lu, INTP7 moved while it was high %lu; edge requests that a line of the slave took back %lu\n",
            stays, parted, slaves_withdrawn);
     printf("  IW3: master's taken %lu, refused %lu, slave's taken %lu, refused %lu\n", third[0][0], third[0][1], third[1][0], third[1][1]);
-    printf("  units:");
+    printf("  units of bytes:");
     for (int p = 0; p < PLACES; p++)
         printf("%s %s", p ? "," : "", places[p]);
     printf("\n");
@@ -601,6 +702,20 @@ static void compare_random(unsigned long seed, unsigned long tapes)
             printf(" %lu", units[d][p]);
         printf("\n");
     }
+    printf("  units of words:");
+    for (int p = 0; p < PAIRS; p++)
+        printf("%s %s", p ? "," : "", pairs[p]);
+    printf("\n");
+    for (int d = 0; d < DIRECTIONS; d++) {
+        printf("  %s:", directions[d]);
+        for (int p = 0; p < PAIRS; p++)
+            printf(" %lu", word_units[d][p]);
+        printf("\n");
+    }
+    printf("  writes to register 0:");
+    for (int w = 0; w < WIDTHS; w++)
+        printf("%s %s %lu", w == MODE_OF_WORDS ? ";" : w ? "," : "", widths[w], width[w]);
+    printf("\n");
     printf("  counters after each lump, by mode:");
     for (int s = 0; s < STATES; s++)
         printf("%s %s", s ? "," : "", states[s]);
@@ -690,11 +805,12 @@ static double reads_tape(length records, length how)
 
 static double units_tape(length records, length mode)
 {
+    unsigned words = mode & 1;
     size = 0;
     state = 6;
-    put(1, 0x22, 0xFF), put(1, 0x23, 0xFF), put(1, 0x2A, (unsigned)mode), put(1, 0x2F, 0x0E), put(3, 2, 1);
+    put(1, 0x20, words << 1), put(1, 0x22, 0xFF), put(1, 0x23, 0xFF), put(1, 0x2A, (unsigned)mode), put(1, 0x2F, 0x0E), put(3, 2, 1);
     while (size < 8 * records)
-        put(6, 0, below(256));
+        put_cycle(0, below(256), words ? below(256) : 0);
     return (double)records;
 }
 
@@ -761,6 +877,8 @@ static const struct line lines[] = {
     {"reads", "record, register reads", reads_tape, 200000, 0, 0, 0},
     {"in", "unit, block, device to memory", units_tape, 200000, 0x94, 0, 0},
     {"out", "unit, block, memory to device", units_tape, 200000, 0x98, 0, 0},
+    {"words-in", "unit of a word, block, device to memory", units_tape, 200000, 0x95, 0, 0},
+    {"words-out", "unit of a word, block, memory to device", units_tape, 200000, 0x99, 0, 0},
     {"search", "record, requests, masks, acknowledges", search_tape, 200000, 0, 0, 0},
     {"cascade", "record, a slave's requests", cascade_tape, 200000, 0, 0, 0},
     {"", "record, mixed, tapes of 1,000", mixed_tape, MOST, 1000, 1000, 0},

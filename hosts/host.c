@@ -1,6 +1,7 @@
 /* host SEED [MEMORY] <TAPE >ANSWERS: feeds the tape to a fresh board in random lumps (of 0 to 40 bytes, now and then of some
  * thousands), writes the answers, and leaves the memory in the file MEMORY. It is `./run feed` with other lumps, in C. Before the tape and
- * after it, the board must be in range; copies with dma.selected 4 and with slave.stage 5 must not be, and must be refused.
+ * after it, the board must be in range; copies with dma.selected 4, with slave.stage 5 and with D1 in a channel's mode must not be, and must be
+ * refused. A copy whose channel 0 has words on the narrow bus, which no tape leads to, must be taken, and must move a word.
  *
  * The toolchain's compiler comes without C's headers, so the few functions of the C library are declared here. */
 #include "limbusagin.h"
@@ -87,6 +88,30 @@ static void check_range(struct limbusagin_board board)
     other.slave.stage = 5;
     if (!is_refused(other))
         fail("a board with slave.stage 5 is in range, or is not refused with 7");
+    other = board;
+    other.dma.channels[3].mode = 0x02;
+    if (!is_refused(other))
+        fail("a board with D1 in dma.channels[3].mode is in range, or is not refused with 7");
+}
+
+/* Words on the narrow bus: the mode alone says how wide a unit is, and register 0 cannot be written with 00H. */
+static void check_narrow(struct limbusagin_board board)
+{
+    static const unsigned char tape[] = {1, 0x20, 0, 0, 0, 0, 0, 0, 3, 2, 1, 0, 0, 0, 0, 0, 6, 0, 0, 0, 0, 0, 0, 0, 6, 0, 0x55, 0xAA, 0, 0, 0, 0};
+    unsigned char memory[3] = {0, 0, 0}, answers[sizeof tape / LIMBUSAGIN_RECORD * LIMBUSAGIN_ANSWER];
+    const unsigned char *unit = answers + 3 * LIMBUSAGIN_ANSWER;
+    struct limbusagin_channel *first = &board.dma.channels[0];
+    first->mode = 0x85; /* block, device to memory, words */
+    first->current.address = 1;
+    first->masked = 0;
+    board.dma.wide = board.dma.serving = board.dma.disabled = 0;
+    board.dma.channel = board.dma.first = board.kept.length = 0;
+    struct limbusagin_fed fed = limbusagin_feed(board, tape, sizeof tape, memory, sizeof memory, answers, sizeof answers);
+    if (!limbusagin_in_range(board) || fed.status != 0)
+        fail("a board with words on the narrow bus is not in range, or is refused");
+    if (answers[0] != 4 || unit[4] != 2 || unit[2] != 0x55 || unit[13] != 0xAA || unit[8] != 1 || unit[12] != 0 || memory[0] != 0x55 ||
+        memory[1] != 0xAA || memory[2] != 0 || fed.board.dma.channels[0].current.address != 3)
+        fail("a board with words on the narrow bus does not move a word");
 }
 
 int main(int words, char **word)
@@ -109,6 +134,7 @@ int main(int words, char **word)
     struct bytes tape = read_whole(0, "standard input");
     struct limbusagin_board board = limbusagin_fresh();
     check_range(board);
+    check_narrow(board);
     unsigned long at = 0;
     while (at < tape.length) {
         unsigned long lump = below(50) == 0 ? below(8000) : below(41);
@@ -123,6 +149,7 @@ int main(int words, char **word)
         at += lump;
     }
     check_range(board);
+    check_narrow(board);
     if (words == 3) {
         int file = open(word[2], REPLACING);
         if (file < 0)

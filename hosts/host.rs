@@ -1,6 +1,7 @@
 //! host SEED [MEMORY] <TAPE >ANSWERS: feeds the tape to a fresh board in random lumps (of 0 to 40 bytes, now and then of some
 //! thousands), writes the answers, and leaves the memory in the file MEMORY. It is `./run feed` with other lumps, in Rust. Before the tape and
-//! after it, the board must be in range; copies with dma.selected 4 and with slave.stage 5 must not be, and must be refused.
+//! after it, the board must be in range; copies with dma.selected 4, with slave.stage 5 and with D1 in a channel's mode must not be, and must be
+//! refused. A copy whose channel 0 has words on the narrow bus, which no tape leads to, must be taken, and must move a word.
 //! host layout: prints where each field of a board lies.
 #![forbid(unsafe_code)]
 
@@ -38,6 +39,37 @@ fn check_range(board: Board) -> Result<(), &'static str> {
     if !is_refused(other) {
         return Err("a board with slave.stage 5 is in range, or is not refused");
     }
+    other = board;
+    other.dma.channels[3].mode = 0x02;
+    if !is_refused(other) {
+        return Err("a board with D1 in dma.channels[3].mode is in range, or is not refused");
+    }
+    Ok(())
+}
+
+/// Words on the narrow bus: the mode alone says how wide a unit is, and register 0 cannot be written with 00H.
+fn check_narrow(mut board: Board) -> Result<(), &'static str> {
+    let tape = [1, 0x20, 0, 0, 0, 0, 0, 0, 3, 2, 1, 0, 0, 0, 0, 0, 6, 0, 0, 0, 0, 0, 0, 0, 6, 0, 0x55, 0xAA, 0, 0, 0, 0];
+    let mut memory = [0; 3];
+    let mut answers = [0; 4 * ANSWER];
+    let first = &mut board.dma.channels[0];
+    first.mode = 0x85; // block, device to memory, words
+    first.current.address = 1;
+    first.masked = false;
+    board.dma.wide = false;
+    board.dma.serving = false;
+    board.dma.disabled = false;
+    board.dma.channel = 0;
+    board.dma.first = 0;
+    board.kept.length = 0;
+    if !board.is_in_range() || board.feed(&tape, &mut memory, &mut answers) != Ok(4) {
+        return Err("a board with words on the narrow bus is not in range, or is refused");
+    }
+    let unit = &answers[3 * ANSWER..];
+    let is_word = unit[4] == 2 && unit[2] == 0x55 && unit[13] == 0xAA && unit[8] == 1 && unit[12] == 0;
+    if answers[0] != 4 || !is_word || memory != [0x55, 0xAA, 0] || board.dma.channels[0].current.address != 3 {
+        return Err("a board with words on the narrow bus does not move a word");
+    }
     Ok(())
 }
 
@@ -63,6 +95,7 @@ fn main() -> Result<(), Box<dyn Error>> {
     let mut answers = [0; ANSWER * 1024];
     let mut board = Board::fresh();
     check_range(board)?;
+    check_narrow(board)?;
     let mut rest = &tape[..];
     while !rest.is_empty() {
         let most = if random.below(50) == 0 { random.below(8000) } else { random.below(41) };
@@ -72,6 +105,7 @@ fn main() -> Result<(), Box<dyn Error>> {
         rest = after;
     }
     check_range(board)?;
+    check_narrow(board)?;
     stdout().flush()?;
     if let Some(file) = words.get(1) {
         std::fs::write(file, memory)?;
@@ -106,7 +140,7 @@ fn layout() {
         let from = offset_of!(Board, dma.channels) + i * size_of::<Channel>();
         show_all!(Channel, format!("dma.channels[{i}]."), from; current.address, current.count, base.address, base.count, mode, masked);
     }
-    show_all!(Board, "", 0; dma.selected, dma.base, dma.rotate, dma.disabled, dma.first, dma.serving, dma.channel, dma.requests, dma.ends);
+    show_all!(Board, "", 0; dma.wide, dma.selected, dma.base, dma.rotate, dma.disabled, dma.first, dma.serving, dma.channel, dma.requests, dma.ends);
     for i in 0..7 {
         println!("kept.bytes[{i}] {} 1", offset_of!(Board, kept.bytes) + i);
     }

@@ -59,8 +59,8 @@ static void list_fields(void)
     for (i = 0; i < 4; i++) {
         CHANNEL(current.address) CHANNEL(current.count) CHANNEL(base.address) CHANNEL(base.count) CHANNEL(mode) CHANNEL(masked)
     }
-    BOARD(dma.selected) BOARD(dma.base) BOARD(dma.rotate) BOARD(dma.disabled) BOARD(dma.first) BOARD(dma.serving)
-    BOARD(dma.channel) BOARD(dma.requests) BOARD(dma.ends)
+    BOARD(dma.wide) BOARD(dma.selected) BOARD(dma.base) BOARD(dma.rotate) BOARD(dma.disabled) BOARD(dma.first)
+    BOARD(dma.serving) BOARD(dma.channel) BOARD(dma.requests) BOARD(dma.ends)
     for (i = 0; i < 7; i++)
         field("kept.bytes", i, "", __builtin_offsetof(struct limbusagin_board, kept.bytes[i]), 1);
     BOARD(kept.length)
@@ -123,6 +123,11 @@ static const struct pair {
     {4, "S0", "W26=AB", "dma.channels[#].base.address=AB0000 dma.channels[#].current.address=AB0000"},
     {4, "S0", "W2A=64", "dma.channels[#].mode=64"},
     {4, "", "F", "dma.channels[#].masked=0"},
+    {4, "W20=02 S0", "W2A=65", "dma.channels[#].mode=65"},
+    {1, "", "W20=02", "dma.wide=1"},
+    {1, "W20=02", "W20=00", "dma.wide=0"},
+    {1, "W20=02 W21=02", "W20=03", "dma.selected=0"},
+    {1, "W20=02 W21=02", "W20=01", "dma.wide=0 dma.selected=0"},
     {1, "", "W21=02", "dma.selected=2"},
     {1, "", "W21=04", "dma.base=1"},
     {1, "", "W28=10", "dma.rotate=1"},
@@ -135,6 +140,8 @@ static const struct pair {
     {1, "W28=10 W21=02 W2A=40 W2F=0B L2=04 C0,00", "C0,00",
      "dma.serving=0 dma.channel=0 dma.ends=4 dma.channels[2].masked=1 dma.channels[2].current.address=1 dma.channels[2].current.count=FFFF "
      "dma.first=3"},
+    {1, "W20=02 W21=02 W24=05 W2A=61 W2F=0B L2=04 C0,00", "C0,00",
+     "dma.serving=0 dma.channel=0 dma.ends=4 dma.channels[2].masked=1 dma.channels[2].current.address=3 dma.channels[2].current.count=FFFF"},
     {1, "", "B01 B22 B03 B44 B05 B66 B07",
      "kept.bytes[0]=1 kept.bytes[1]=22 kept.bytes[2]=3 kept.bytes[3]=44 kept.bytes[4]=5 kept.bytes[5]=66 kept.bytes[6]=7 kept.length=7"},
 };

@@ -31,7 +31,7 @@ typedef unsigned int limbusagin_u32;
 typedef unsigned long limbusagin_size;
 
 /* The version of these declarations. A host compares it with what limbusagin_version() answers. */
-#define LIMBUSAGIN_VERSION 3u
+#define LIMBUSAGIN_VERSION 4u
 
 /* Bytes of a record and of its answer. A call that completes k records needs room for 16 * k bytes of answers. */
 #define LIMBUSAGIN_RECORD 8u
@@ -84,13 +84,14 @@ struct limbusagin_span {
 struct limbusagin_channel {
     struct limbusagin_span current;
     struct limbusagin_span base;
-    limbusagin_u8 mode;        /* register A */
+    limbusagin_u8 mode;        /* register A; D0: its units are words, and else bytes */
     limbusagin_bool masked;
 };
 
 /* The DMA chip, 71071. */
 struct limbusagin_dma {
     struct limbusagin_channel channels[4];
+    limbusagin_bool wide;      /* register 0: the bus of 16 bits, on which a mode of words may be written */
     limbusagin_u8 selected;    /* register 1: the channel of registers 2 to 6 and A */
     limbusagin_bool base;      /* register 1: 2 to 6 are the base alone */
     limbusagin_bool rotate;    /* register 8 */
@@ -151,8 +152,11 @@ limbusagin_bool limbusagin_in_range(struct limbusagin_board board);
  *
  * With k the whole records that the kept bytes and the tape come to, the call writes 16 * k bytes to answers, leaves the rest
  * of that buffer, and answers status 0 and k; up to 7 bytes of a cut record are kept in the board. Memory byte i is address i;
- * addresses at or past the end, memory_length itself too, read FFH and lose writes. Byte 12 of a DMA cycle's answer is 1 if it moved a unit
- * to or from such an address, else 0; a verify, which uses no memory, has 0.
+ * addresses at or past the end, memory_length itself too, read FFH and lose writes. Byte 12 of a DMA cycle's answer is 1 if it moved a byte
+ * to or from such an address, be it one half of a word alone, else 0; a verify, which uses no memory, has 0.
+ *
+ * The device gives a DMA cycle the bytes 2 and, for the upper half of a word, 3 of its record. A unit that is a word is the byte of an even address, byte 2 of
+ * the answer, and that of the next, byte 13; where bytes 8 to 11 have an odd address, the even one is that below it.
  *
  * Status 7 (a field of the board is out of its range, or 16 * k is above answers_length) has records 0, the board as it was passed, and
  * memory and answers untouched: nothing was taken. */

@@ -23,7 +23,7 @@
 use core::fmt;
 
 /// The version of these declarations. [`version`] answers the library's.
-pub const VERSION: u32 = 3;
+pub const VERSION: u32 = 4;
 /// Bytes of a record.
 pub const RECORD: usize = 8;
 /// Bytes of an answer.
@@ -106,7 +106,7 @@ pub struct Span {
 pub struct Channel {
     pub current: Span,
     pub base: Span,
-    /// register A
+    /// register A; D0: its units are words, and else bytes
     pub mode: u8,
     pub masked: bool,
 }
@@ -116,6 +116,8 @@ pub struct Channel {
 #[derive(Clone, Copy, Debug, PartialEq, Eq)]
 pub struct Dma {
     pub channels: [Channel; 4],
+    /// register 0: the bus of 16 bits, on which a mode of words may be written
+    pub wide: bool,
     /// register 1: the channel of registers 2 to 6 and A
     pub selected: u8,
     /// register 1: 2 to 6 are the base alone
@@ -232,8 +234,11 @@ impl Board {
     ///
     /// With k the whole records that the kept bytes and the tape come to, this writes `16 * k` bytes to `answers`, leaves the rest of it, and
     /// answers `Ok(k)`; up to 7 bytes of a cut record are kept in the board. Memory byte i is address i; addresses at or past the end,
-    /// `memory.len()` itself too, read FFH and lose writes. Byte 12 of a DMA cycle's answer is 1 if it moved a unit to or from such an address,
-    /// else 0; a verify, which uses no memory, has 0. [`Refused`] leaves the board, the memory and the answers as they were.
+    /// `memory.len()` itself too, read FFH and lose writes. Byte 12 of a DMA cycle's answer is 1 if it moved a byte to or from such an address, be it
+    /// one half of a word alone, else 0; a verify, which uses no memory, has 0. [`Refused`] leaves the board, the memory and the answers as they were.
+    ///
+    /// The device gives a DMA cycle the bytes 2 and, for the upper half of a word, 3 of its record. A unit that is a word is the byte of an even address,
+    /// byte 2 of the answer, and that of the next, byte 13; where bytes 8 to 11 have an odd address, the even one is that below it.
     pub fn feed(&mut self, tape: &[u8], memory: &mut [u8], answers: &mut [u8]) -> Result<usize, Refused> {
         // Safe: the pointers are those of three live slices, of which Rust sees to it that they do not overlap; a `bool` is 0 or 1; and
         // `Fed` has the library's layout (hosts/run compares it).

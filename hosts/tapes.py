@@ -48,7 +48,9 @@ def likely(r):
         return record(4)
     if k == 17:
         return advance(r.choice([0, 1, 2, 3, r.randrange(300)]))
-    return record(6, r.randrange(2), r.randrange(256))
+    if k == 18:
+        return r.choice([record(1, 0x20, r.choice([2, 2, 2, 0, 3])), record(1, 0x2A, r.choice([0, 0x40, 0x80]) | r.randrange(4) << 4 | r.randrange(3) << 2 | 1)])
+    return record(6, r.randrange(2), r.randrange(256), r.randrange(256))
 
 
 def mixed(seed, n, wild):
@@ -163,6 +165,26 @@ def outside(length):
     return b"".join(out)
 
 
+def words(length):
+    """Blocks of words across the memory's end, and across FFFFFFH, from an even address and from an odd one: each direction, mode and way, with what the channel
+    is at after each. Before them, and between, register 0: words that are refused on the narrow bus, a narrow bus that is refused while a channel has words, and
+    resets with either width."""
+    out = [record(1, 0x2A, 0x85), record(1, 0x20, 2)]
+    for end in (length, 1 << 24):
+        for direction in (0x00, 0x04, 0x08):
+            for mode in (0x00, 0x40, 0x80):
+                for falls in (0x00, 0x20):
+                    for odd in (0, 1):
+                        first = ((end & ~1) + (4 if falls else -4) + odd) % (1 << 24)
+                        out += [record(1, 0x22, 4), record(1, 0x23, 0)]
+                        out += [record(1, 0x24 + i, first >> 8 * i & 255) for i in range(3)]
+                        out += [record(1, 0x2A, mode | falls | direction | 1), record(1, 0x20, 0), record(1, 0x2F, 0x0E), record(3, 2, 1)]
+                        out += [record(6, 0, 0x40 + i, 0x60 + i) for i in range(11 if mode == 0x40 else 7)]
+                        out += [record(3, 2, 0)] + [record(2, 0x22 + i) for i in range(5)] + [record(2, 0x2B)]
+        out += [record(1, 0x20, 1), record(1, 0x2A, 0x41), record(1, 0x20, 3), record(1, 0x2A, 0x41), record(1, 0x2A, 0x43)]
+    return b"".join(out)
+
+
 def main(folder):
     os.makedirs(folder, exist_ok=True)
     r = random.Random(71)
@@ -190,6 +212,8 @@ def main(folder):
             record(1, 0x2A, 0x84) + record(1, 0x23, 0x10) + record(1, 0x2F, 0x0E) + record(3, 2, 1)
             + b"".join(record(6, 0, i & 255) for i in range(4100)), 4000),
         "outside": (outside(1000), 1000),
+        "words": (words(1000), 1000),
+        "words-odd": (words(1001), 1001),
     }
     for name, (tape, memory) in tapes.items():
         with open(os.path.join(folder, name + ".tape"), "wb") as f:

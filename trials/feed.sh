@@ -49,6 +49,30 @@ trial_feed_answers() { # the answers of a small tape and its memory are right, b
  00 05 00 01 01 00 00 00 00 00 00 00 00 00 00 00' "$(od -An -v -tx1 -w16 out)"
 }
 
+trial_feed_words() { # a word of which the memory has one byte writes and reads that one; byte 12 of its answer is 1, as where the memory has none, and byte 13 is the upper byte
+    printf 'write %s\n' '20 02' '2A 85' '22 01' '2F 0E' >x
+    printf 'requests 01\ncycle\ncycle 41 42\ncycle 43 44\n' >>x
+    printf 'write %s\n' '2A 89' '22 01' '23 00' '24 00' '2F 0E' >>x
+    printf 'cycle\ncycle\ncycle\n' >>x
+    start lesson assemble x
+    status_is 0
+    cp out words
+    while IFS='|' read -r before after units; do
+        printf %s "$before" >m
+        start feed m <words
+        status_is 0
+        expect 'memory' "$after" "$(cat m)"
+        expect 'lower byte, upper byte and byte 12' "$units" \
+            "$(od -An -v -tx1 -w16 out | awk '$2 == "06" && $5 == "02" { printf "%s%s %s %s", comma, $3, $14, $13; comma = ", " }')"
+    done <<END
+||41 42 01, 43 44 01, ff ff 01, ff ff 01
+a|A|41 42 01, 43 44 01, 41 ff 01, ff ff 01
+ab|AB|41 42 00, 43 44 01, 41 42 00, ff ff 01
+abc|ABC|41 42 00, 43 44 01, 41 42 00, 43 ff 01
+abcd|ABCD|41 42 00, 43 44 00, 41 42 00, 43 44 00
+END
+}
+
 trial_feed_folder_as_memory() { # a folder as MEMORY is refused before the run
     mkdir d
     refuses d

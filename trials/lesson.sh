@@ -112,7 +112,7 @@ trial_lesson_lessons() { # the lessons of the class run, and go to a tape and ba
     status_is 0
     silent
     expect 'titles' "$(echo "$lessons"/*.lesson)" "$(grep '[.]lesson$' out | tr '\n' ' ' | sed 's/ $//')"
-    for lesson in slave status tour; do
+    for lesson in slave status tour wide; do
         start lesson assemble "$lessons/$lesson.lesson"
         status_is 0
         cp out t
@@ -663,6 +663,104 @@ END
     row_says '42 at 010001: past the end of memory; end, bus free channel'
     row_says '43 at 010002, bus free channel'
     row_says '44 at 010003 '
+}
+
+trial_lesson_cycles() { # a cycle goes to a tape and back with its lower byte, its upper byte and end, whatever they are; only a record that no such line makes is raw
+    printf 'cycle%s\n' '' ' 00 end' ' 41' ' 41 end' ' 41 42' ' 41 42 end' ' 00 42' ' 00 42 end' >b.lesson
+    printf 'raw 06 %s 00 00\n' '02 41 42 00 00' '00 41 42 01 00' >>b.lesson
+    printf '\006\0\0\0\0\0\0\0\006\001\0\0\0\0\0\0' >t
+    printf '\006\0\101\0\0\0\0\0\006\001\101\0\0\0\0\0' >>t
+    printf '\006\0\101\102\0\0\0\0\006\001\101\102\0\0\0\0' >>t
+    printf '\006\0\0\102\0\0\0\0\006\001\0\102\0\0\0\0' >>t
+    printf '\006\002\101\102\0\0\0\0\006\0\101\102\001\0\0\0' >>t
+    start lesson assemble b.lesson
+    status_is 0
+    silent
+    wrote t
+    start lesson list t
+    status_is 0
+    wrote b.lesson
+    # the same records with all their bytes, and as raw ones
+    printf 'cycle %s\n' 0 '0 0 end' '41 0' '41 00 end' '41   42# a comment' '41 42  end' '0 42' '00 42 end' >long
+    grep ^raw b.lesson >>long
+    start lesson assemble long
+    status_is 0
+    wrote t
+    od -An -v -tx1 -w8 t | sed 's/^/raw/' >raw
+    start lesson assemble raw
+    status_is 0
+    wrote t
+}
+
+# A lesson in which channel 0, in the given mode, moves one word on the 16-bit bus.
+word_at() { # MODE HIGH MIDDLE LOW
+    printf 'write %s\n' '20 02' '21 00' '22 00' '23 00' "24 $4" "25 $3" "26 $2" "2A $1" '2F 0E'
+    printf 'requests 01\ncycle\ncycle 41 42\n'
+}
+
+trial_lesson_words() { # a word has both bytes in its row; at an odd address the row has the pair that is used, and that pair is written; past the end of memory both bytes count. explain tells a word by its upper byte
+    while IFS='|' read -r mode address counted row; do
+        # shellcheck disable=SC2086
+        word_at "$mode" $address >x
+        start lesson x
+        status_is 0
+        row_says "channel 0 gets the bus; no unit channel 0: $row; end, bus free "
+        expect 'the end' "$counted" "$(sed -n '/^records/,/^memory/p' out | sed -n 's/^bytes //p')"
+        awk 'length > 80 { exit 1 }' out || wrong 'columns of a row' '80 at the most' "$(awk 'length > 80' out)"
+    done <<END
+85|00 01 01||41 42 to memory 000101: odd, so 000100 and 000101
+85|00 FF FF||41 42 to memory 00FFFF: odd, so 00FFFE and 00FFFF
+85|01 00 00|lost past the end of memory: 2|41 42 to memory 010000: past the end of memory, both lost
+85|01 00 01|lost past the end of memory: 2|41 42 to memory 010001: odd, so 010000 and 010001; past the end of memory, both lost
+89|00 01 01||00 00 from memory 000101: odd, so 000100 and 000101
+89|01 00 00|read past the end of memory: 2|FF FF from memory 010000: past the end of memory, both read FF
+89|FF FF FF|read past the end of memory: 2|FF FF from memory FFFFFF: odd, so FFFFFE and FFFFFF; past the end of memory, both read FF
+81|01 00 01||word verified 010001: odd, so 010000 and 010001
+END
+    for place in '85 00:41 42 to memory 000100' '89 00:00 00 from memory 000100' '81 00:word verified 000100' '84 01:41 to memory 000101'; do
+        # shellcheck disable=SC2086
+        set -- ${place%%:*}
+        word_at "$1" 00 01 "$2" >x
+        start lesson x
+        row_says "channel 0: ${place#*:}, end, bus free "
+    done
+    for low in 00 01; do
+        word_at 85 00 01 $low >x
+        start lesson x
+        expect 'the last row' '  000100  41 42 -- -- -- -- -- -- -- -- -- -- -- -- -- --  AB..............' "$(tail -n 1 out)"
+    done
+    # answers by themselves: with no upper byte a word is not told from a byte, and byte 12 does not say how much is past the end
+    printf '\0\006\101\0\002\0\0\0\003\001\0\0\0\102\0\0' >answers
+    printf '\0\006\101\0\002\0\001\001\002\001\0\0\001\102\0\0' >>answers
+    printf '\0\006\101\0\002\0\0\001\003\001\0\0\001\102\0\0' >>answers
+    printf '\0\006\101\0\002\0\0\0\003\001\0\0\0\0\0\0' >>answers
+    start lesson explain answers
+    status_is 0
+    row_says '41 42 at 000103: odd, so 000102 and 000103 channel'
+    row_says '41 42 at 000102: past the end of memory, the upper byte or both; end, bus free channel'
+    row_says '41 42 at 000103: odd, so 000102 and 000103; past the end of memory, the upper byte or both; bus free channel'
+    row_says '41 at 000103 '
+}
+
+trial_lesson_bus() { # words are for the 16-bit bus: a word mode without it, and the 8-bit bus with a word mode, are refused, and the row says what to do; a reset of the chip never is
+    while IFS='|' read -r refused records row; do
+        # shellcheck disable=SC2059
+        printf "$records" >x
+        start lesson x
+        status_is 0
+        expect 'the end' "records: $(($(wc -l <x))), refused: $refused" "$(grep ^records out)"
+        row_says "$row"
+    done <<'END'
+1|write 2A 85\n|4: not built, words on the 8-bit bus; for the 16-bit bus write 02 to port 20 first
+0|write 20 02\nwrite 2A 85\n|done done
+1|write 20 02\nwrite 2A 87\n|4: not built, D1 of a mode
+1|write 20 02\nwrite 2A 85\nwrite 20 00\n|4: not built, words on the 8-bit bus; channels in a word mode: 0. Give each a byte mode first, or reset the chip
+1|write 20 02\nwrite 21 01\nwrite 2A 01\nwrite 21 03\nwrite 2A 85\nwrite 20 00\n|channels in a word mode: 1 3. Give
+0|write 20 02\nwrite 2A 85\nwrite 2A 84\nwrite 20 00\n|done done done done
+0|write 20 02\nwrite 2A 85\nwrite 20 03\nwrite 2A 85\n|done done done done
+1|write 20 02\nwrite 2A 85\nwrite 20 01\nwrite 2A 85\n|done done done 4: not built, words on the 8-bit bus
+1|write 20 02\nreset\nwrite 2A 85\n|done done 4: not built, words on the 8-bit bus
+END
 }
 
 trial_lesson_tapes() { # an empty tape and a cut one are told, with status 1; the whole records of a cut one are shown

@@ -196,11 +196,11 @@ def advance(w):
 
 
 def plain_unit(w):
-    return f"{free(w, 'plain-unit')} _ _ {is_op(w)} (sym {ensures(w, 'is-plain')} ∙ {tests(w)[0]} .taken) _ _ _ _ {ensures(w, 'advance')} {ensures(w, 'transfer', ' .1')} {ensures(w, 'transfer', ' .0')} {ensures(w, 'moved-payload')}"
+    return f"{free(w, 'plain-unit')} _ _ _ {is_op(w)} (sym {ensures(w, 'is-plain')} ∙ {tests(w)[0]} .taken) _ _ _ _ {ensures(w, 'advance')} {ensures(w, 'transfer', ' .1')} {ensures(w, 'transfer', ' .0')} {ensures(w, 'moved-payload')}"
 
 
 def cycle(w):
-    return f"{free(w, 'cycle-by-call')} _ _ {is_op(w)} _ ({w.last('cycle')} .result .report) _ _ _ {ensures(w, 'cycle', ' .0')} {ensures(w, 'cycle', ' .1 .0')} {ensures(w, 'cycle', ' .1 .1')} {ensures(w, 'byte-moved')} {ensures(w, 'payload')}"
+    return f"{free(w, 'cycle-by-call')} _ _ _ {is_op(w)} _ ({w.last('cycle')} .result .report) _ _ _ {ensures(w, 'cycle', ' .0')} {ensures(w, 'cycle', ' .1 .0')} {ensures(w, 'cycle', ' .1 .1')} {ensures(w, 'byte-moved')} {ensures(w, 'payload')}"
 
 
 # (the law, the call that lent the memory and where its last state and its kept length stand, if there is one)
@@ -227,8 +227,8 @@ ARMS = [
     (acknowledge, None),
     (unanswered, None),
     (advance, None),
-    (plain_unit, ("transfer", " .1 .1 .0")),
-    (cycle, ("cycle", " .1 .1 .1 .0")),
+    (plain_unit, ("transfer", " .1 .1 .1 .0")),
+    (cycle, ("cycle", " .1 .1 .1 .1 .0")),
 ]
 
 

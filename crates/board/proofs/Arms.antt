@@ -386,42 +386,42 @@ module _ (b : Board) (r m : List ℕ) (j : ℕ) (ej : j ≡ joined b) (l : ℕ) 
           (en ∙ ap (λ (z : ℕ). levelsAt (a .icu) z (a .timer)) ej))
 
       -- a DMA cycle by what it reports
-      pub cycle : (e : Bool) (x : ℕ) → o ≡ Cycle e x
+      pub cycle : (e : Bool) (x y : ℕ) → o ≡ Cycle e x y
           → (d : Dma) (t : Told) (m′ p : List ℕ) (k : ℕ)
-          → record { dma = d; memory = m′; report = t } ≡ DmaCycle.cycleOf (b .dma) e x m
+          → record { dma = d; memory = m′; report = t } ≡ DmaCycle.cycleOf (b .dma) e x y m
           → k ≡ t .byte
           → p ≡ twelve (payloadOf t)
           → Turned b r m (dma-is d b) m′ j l (answerOf 0 (byte r 0) k l p)
       unfolding executeOf memoryAfter cycleOf cycleMemory levelsOf
-      cycle e x v d t m′ p k ec ek ep =
+      cycle e x y v d t m′ p k ec ek ep =
           rw (ek, ep)
           (carried (record { status = 0; board = dma-is d b; byte = t .byte; payload = twelve (payloadOf t) }) m′ j l
           (ap (λ (z : Operation). executeOf b z m) v
           ∙ ap (λ (z : DmaCycle.Out). record { status = 0; board = dma-is (z .dma) b; byte = z .report .byte; payload = twelve (payloadOf (z .report)) }) (sym ec))
           (ap (λ (z : Operation). memoryAfter b z m) v ∙ ap (λ (z : DmaCycle.Out). z .memory) (sym ec)) ej el)
 
-      pub cycle-by-call : (e : Bool) (x : ℕ) → o ≡ Cycle e x
+      pub cycle-by-call : (e : Bool) (x y : ℕ) → o ≡ Cycle e x y
           → (d : Dma) (report : Report) (m′ p : List ℕ) (k : ℕ)
-          → d ≡ DmaCycle.cycleOf (b .dma) e x m .dma
-          → told report ≡ DmaCycle.cycleOf (b .dma) e x m .report
-          → m′ ≡ DmaCycle.cycleOf (b .dma) e x m .memory
+          → d ≡ DmaCycle.cycleOf (b .dma) e x y m .dma
+          → told report ≡ DmaCycle.cycleOf (b .dma) e x y m .report
+          → m′ ≡ DmaCycle.cycleOf (b .dma) e x y m .memory
           → k ≡ told report .byte
           → p ≡ twelve (payloadOf (told report))
           → Turned b r m (dma-is d b) m′ j l (answerOf 0 (byte r 0) k l p)
-      cycle-by-call e x v d report m′ p k ed et em ek ep =
-          cycle e x v d (told report) m′ p k (rw (ed, et, em)) ek ep
+      cycle-by-call e x y v d report m′ p k ed et em ek ep =
+          cycle e x y v d (told report) m′ p k (rw (ed, et, em)) ek ep
 
       -- a plain unit: of the served channel, which is c, the current address and count alone
-      pub plain-unit : (e : Bool) (x : ℕ) → o ≡ Cycle e x
+      pub plain-unit : (e : Bool) (x y : ℕ) → o ≡ Cycle e x y
           → let c = chan (b .dma) (b .dma .channel % 4) in
           plainOf c (b .dma .serving) (b .dma .channel) (b .dma .requests) e ≡ true
           → (c′ : Channel) (m′ p : List ℕ) (w : Carried)
           → c′ ≡ DmaCycle.movedOf c false
-          → m′ ≡ DmaCycle.memoryOf c m x
-          → w ≡ DmaCycle.carriedOf c m x
-          → p ≡ twelve (2 ∷ b .dma .channel ∷ flagOf false ∷ flagOf false ∷ littleOf (c .current .address) ++ flagOf (w .outside) ∷ [])
+          → m′ ≡ DmaCycle.memoryOf c m x y
+          → w ≡ DmaCycle.carriedOf c m x y
+          → p ≡ twelve (2 ∷ b .dma .channel ∷ flagOf false ∷ flagOf false ∷ littleOf (c .current .address) ++ flagOf (w .outside) ∷ w .upper ∷ [])
           → Turned b r m (dma-is (channels-are (set (b .dma .channels) (b .dma .channel % 4) c′) (b .dma)) b) m′ j l (answerOf 0 (byte r 0) (w .byte) l p)
-      plain-unit e x v h c′ m′ p w ec em ew ep =
+      plain-unit e x y v h c′ m′ p w ec em ew ep =
           let c = chan (b .dma) (b .dma .channel % 4) in
-          cycle e x v _ (moved (b .dma .channel) false false (c .current .address) (w .byte) (w .outside)) m′ p (w .byte)
-          (rw (ec, em, ew) (sym (plain (b .dma) e x m h))) refl ep
+          cycle e x y v _ (moved (b .dma .channel) false false (c .current .address) (w .byte) (w .upper) (w .outside)) m′ p (w .byte)
+          (rw (ec, em, ew) (sym (plain (b .dma) e x y m h))) refl ep

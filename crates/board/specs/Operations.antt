@@ -137,21 +137,24 @@ readOf b p =
 abbrev pub flagOf : Bool → ℕ
 flagOf k = if k then 1 else 0
 
--- What a DMA cycle reports: kind, channel, end, service stopped, the unit's address in four bytes, little end first, and 1 if the unit fell off.
+-- What a DMA cycle reports: kind, channel, end, service stopped, the unit's address in four bytes, little end first, 1 if some byte of the unit fell
+-- off, and a word's upper byte.
 abbrev pub payloadOf : Told → List ℕ
-payloadOf t = t .kind ∷ t .channel ∷ flagOf (t .end) ∷ flagOf (t .stopped) ∷ littleOf (t .address) ++ flagOf (t .outside) ∷ []
+payloadOf t =
+    t .kind ∷ t .channel ∷ flagOf (t .end) ∷ flagOf (t .stopped) ∷ littleOf (t .address) ++ flagOf (t .outside) ∷ t .upper ∷ []
 
-abbrev pub cycled : Board → Bool → ℕ → List ℕ → DmaCycle.Out
-cycled b end x m = DmaCycle.cycleOf (b .dma) end x m
+-- END, and the device's bytes: x, and y for the upper half of a word.
+abbrev pub cycled : Board → Bool → ℕ → ℕ → List ℕ → DmaCycle.Out
+cycled b end x y m = DmaCycle.cycleOf (b .dma) end x y m
 
-unfoldable pub cycleOf : Board → Bool → ℕ → List ℕ → Outcome
-cycleOf b end x m =
+unfoldable pub cycleOf : Board → Bool → ℕ → ℕ → List ℕ → Outcome
+cycleOf b end x y m =
     record {
       status = 0;
-      board = dma-is (cycled b end x m .dma) b;
-      byte = cycled b end x m .report .byte;
-      payload = twelve (payloadOf (cycled b end x m .report));
+      board = dma-is (cycled b end x y m .dma) b;
+      byte = cycled b end x y m .report .byte;
+      payload = twelve (payloadOf (cycled b end x y m .report));
     }
 
-unfoldable pub cycleMemory : Board → Bool → ℕ → List ℕ → List ℕ
-cycleMemory b end x m = cycled b end x m .memory
+unfoldable pub cycleMemory : Board → Bool → ℕ → ℕ → List ℕ → List ℕ
+cycleMemory b end x y m = cycled b end x y m .memory

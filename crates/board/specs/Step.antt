@@ -28,11 +28,11 @@ executeOf b (Requests levels) m = done (dma-is (requestedOf (b .dma) levels) b)
 executeOf b (SlaveIntp levels) m = done (followed b (slaveLines b levels))
 executeOf b Acknowledge m = acknowledgeOf b
 executeOf b (Advance n) m = advanceOf b n
-executeOf b (Cycle end x) m = cycleOf b end x m
+executeOf b (Cycle end x y) m = cycleOf b end x y m
 
 -- No operation but a DMA cycle touches the memory.
 unfoldable pub memoryAfter : Board → Operation → List ℕ → List ℕ
-memoryAfter b (Cycle end x) m = cycleMemory b end x m
+memoryAfter b (Cycle end x y) m = cycleMemory b end x y m
 memoryAfter b Reset m = m
 memoryAfter b (Write p x) m = m
 memoryAfter b (Read p) m = m

@@ -147,14 +147,21 @@ fn flag(k: bool) -> u8
 }
 
 // A unit as payload.
-fn moved_payload(channel: u8, end: bool, stopped: bool, address: u32, outside: bool) -> [u8; 12]
-    ensures { λ r. ⌜ r ≡ twelve (2 ∷ channel ∷ flagOf end ∷ flagOf stopped ∷ littleOf address ++ flagOf outside ∷ []) ⌝ }
+fn moved_payload(
+    channel: u8,
+    end: bool,
+    stopped: bool,
+    address: u32,
+    outside: bool,
+    upper: u8,
+) -> [u8; 12]
+    ensures { λ r. ⌜ r ≡ twelve (2 ∷ channel ∷ flagOf end ∷ flagOf stopped ∷ littleOf address ++ flagOf outside ∷ upper ∷ []) ⌝ }
 {
     let a = tape::little(address);
     let e = flag(end);
     let s = flag(stopped);
     let o = flag(outside);
-    [2, channel, e, s, a[0], a[1], a[2], a[3], o, 0, 0, 0]
+    [2, channel, e, s, a[0], a[1], a[2], a[3], o, upper, 0, 0]
 }
 
 // A cycle's report as payload.
@@ -169,7 +176,7 @@ fn payload(report: Report) -> [u8; 12]
             return [1, n, 0, 0, 0, 0, 0, 0, 0, 0, 0, 0];
         }
         Report::Moved(u) => {
-            return moved_payload(u.channel, u.end, u.stopped, u.address, u.outside);
+            return moved_payload(u.channel, u.end, u.stopped, u.address, u.outside, u.upper);
         }
         Report::Released(n) => {
             return [3, n, 0, 1, 0, 0, 0, 0, 0, 0, 0, 0];
@@ -709,18 +716,25 @@ impl Board {
                     continue;
                 }
                 // of the DMA chip a plain unit changes its channel alone, and is done here; `Dma::cycle` does any other cycle
-                Operation::Cycle(end, x) => {
+                Operation::Cycle(end, x, upper) => {
                     let n = dma.channel;
                     let at = (n % 4) as usize;
                     let c = dma.channels[at];
                     if dma::is_plain(c, dma.serving, n, dma.requests, end) {
-                        let carried = c.transfer(x, memory);
+                        let carried = c.transfer(x, upper, memory);
                         dma.channels[at] = c.advance(false);
-                        let p = moved_payload(n, false, false, c.current.address, carried.outside);
+                        let p = moved_payload(
+                            n,
+                            false,
+                            false,
+                            c.current.address,
+                            carried.outside,
+                            carried.upper,
+                        );
                         tell(answers, i, 0, op, carried.byte, levels, p);
                         continue;
                     }
-                    let cycled = dma.cycle(end, x, memory);
+                    let cycled = dma.cycle(end, x, upper, memory);
                     let report = cycled.report;
                     dma = cycled.dma;
                     tell(

@@ -4,3 +4,4 @@ pub mod Looks
 pub mod Numbers
 pub mod Plain
 pub mod Ranks
+pub mod Units

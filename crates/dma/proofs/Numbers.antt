@@ -1,6 +1,6 @@
 -- What the code adds up, as the definitions have it.
 use mathlib.Core.Path.{_≡_}
-use Prim.Native.Nat.{ℕ, _+_, _*_, _/_, _%_, _<_}
+use Prim.Native.Nat.{ℕ, _+_, _*_, _/_, _-_, _%_, _≤_, _<_}
 use native.Mathlib.Omega.{arith}
 use Rattle.dma.specs.Registers.{byte-is}
 
@@ -20,11 +20,11 @@ module _ (v x : ℕ) (h : x < 256) where
   top g = omega arith
 
 -- An address brought into its 24 bits before it steps steps to the same place.
-pub up : (a : ℕ) → (a % 16777216 + 1) % 16777216 ≡ (a + 1) % 16777216
-up a = omega arith
+pub up : (a w : ℕ) → (a % 16777216 + w) % 16777216 ≡ (a + w) % 16777216
+up a w = omega arith
 
-pub fall : (a : ℕ) → (a % 16777216 + 16777215) % 16777216 ≡ (a + 16777215) % 16777216
-fall a = omega arith
+pub fall : (a w : ℕ) → w ≤ 2 → (a % 16777216 + 16777216 - w) % 16777216 ≡ (a + 16777216 - w) % 16777216
+fall a w h = omega arith
 
 -- The same of a channel number.
 pub turn : (n k : ℕ) → (n % 4 + k) % 4 ≡ (n + k) % 4

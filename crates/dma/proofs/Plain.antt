@@ -29,12 +29,12 @@ tests true false false false false true false h = absurd (true≢false (sym h))
 tests true false false false false false r h = (refl, refl, refl, refl, refl, refl)
 
 -- the chip with channel k, which was c, one unit on; the memory; the report
-abbrev pub goneOn : Dma → ℕ → List ℕ → ℕ → Channel → Out
-goneOn d b m k c =
+abbrev pub goneOn : Dma → ℕ → ℕ → List ℕ → ℕ → Channel → Out
+goneOn d b u m k c =
     record {
       dma = channels-are (set (d .channels) k (movedOf c false)) d;
-      memory = memoryOf c m b;
-      report = moved (d .channel) false false (c .current .address) (byteOf c m b) (outsideOf c m);
+      memory = memoryOf c m b u;
+      report = moved (d .channel) false false (c .current .address) (byteOf c m 0 b) (byteOf c m 1 u) (outsideOf c m);
     }
 
 abbrev Plain : Dma → Bool → ℕ → Type 0
@@ -53,17 +53,17 @@ module _ (d : Dma) (e : Bool) (k : ℕ) (h : Plain d e k) where
       tests (d .serving) (leb 4 (d .channel)) (eqb (c .current .count) 0) e (single c) (demand c) (bitOf (d .requests) (d .channel)) h
 
 -- the served channel in its own place
-straight : (d : Dma) (e : Bool) (b : ℕ) (m : List ℕ) → Plain d e (d .channel) → cycleOf d e b m ≡ goneOn d b m (d .channel) (served d)
+straight : (d : Dma) (e : Bool) (b u : ℕ) (m : List ℕ) → Plain d e (d .channel) → cycleOf d e b u m ≡ goneOn d b u m (d .channel) (served d)
 unfolding cycleOf unitOf
-straight d e b m h =
+straight d e b u m h =
     let f = each d e (d .channel) h in
     rw (f .5, f .3, f .2, f .4, f .0)
 
 -- and in the place that the program looks at
-pub plain : (d : Dma) (e : Bool) (b : ℕ) (m : List ℕ)
+pub plain : (d : Dma) (e : Bool) (b u : ℕ) (m : List ℕ)
     → Plain d e (d .channel % 4)
-    → cycleOf d e b m ≡ goneOn d b m (d .channel % 4) (chan d (d .channel % 4))
-plain d e b m h =
+    → cycleOf d e b u m ≡ goneOn d b u m (d .channel % 4) (chan d (d .channel % 4))
+plain d e b u m h =
     let lt = leb-false 4 (d .channel) (each d e (d .channel % 4) h .1) in
     let q : d .channel % 4 ≡ d .channel = omega (arith, lt) in
-    straight d e b m (subst (Plain d e) q h) ∙ ap (λ (k : ℕ). goneOn d b m k (chan d k)) (sym q)
+    straight d e b u m (subst (Plain d e) q h) ∙ ap (λ (k : ℕ). goneOn d b u m k (chan d k)) (sym q)

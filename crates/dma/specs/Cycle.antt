@@ -1,5 +1,5 @@
 -- One bus cycle.
-use Prim.Native.Nat.{ℕ, zero, suc, _+_, _/_, _%_}
+use Prim.Native.Nat.{ℕ, zero, suc, _+_, _-_, _*_, _/_, _%_}
 use mathlib.Core.List.{List}
 use mathlib.Core.Bool.{Bool, true, false, not}
 use lib.Dec.{eqb, ltb, leb}
@@ -10,11 +10,11 @@ use Rattle.dma.specs.declared.Span.{Span}
 use Rattle.dma.specs.declared.Channel.{Channel}
 use Rattle.dma.specs.declared.Dma.{Dma}
 use Rattle.dma.specs.declared.Carried.{Carried}
-use Rattle.dma.specs.Fields.{span, current-is, masked-is, chan, served, turned}
+use Rattle.dma.specs.Fields.{span, current-is, masked-is, chan, served, word, turned}
 use Rattle.dma.specs.Report.{Told, nothing, granted, moved, released}
 
 -- What a channel's mode byte says. TMODE: demand 00, single 01, and block 10, which is neither. ADIR: the address falls. AUTI:
--- autoinitialize. TDIR: device to memory 01 writes, memory to device 10 reads, and verify 00 does neither.
+-- autoinitialize. TDIR: device to memory 01 writes, memory to device 10 reads, and verify 00 does neither. (W/B is `word`, in Fields.antt.)
 abbrev pub demand : Channel → Bool
 demand c = eqb (c .mode / 64) 0
 
@@ -92,31 +92,59 @@ pokeOf m a b = if ltb a 16777216 then set m a b else m
 abbrev pub inMemory : List ℕ → ℕ → Bool
 inMemory m a = ltb a 16777216 and ltb a (length m)
 
--- The byte that a unit moves, the device's b or memory's, and the memory after it. Verify gives 0.
-abbrev pub byteOf : Channel → List ℕ → ℕ → ℕ
-byteOf c m b = if writes c then b else if reads c then peekOf m (c .current .address) else 0
+-- A unit is as many bytes as its width: one, or a word's two. It starts at its address, rounded down to a whole number of units, so a word at an odd
+-- address uses the even one below. (House: the bytes used are rounded, and not the register, which keeps its odd address, steps by two from it and is
+-- reported so.) Its byte i, the lower 0 and a word's upper 1, is i places on.
+abbrev pub sizeOf : Bool → ℕ
+sizeOf word = if word then 2 else 1
 
-abbrev pub memoryOf : Channel → List ℕ → ℕ → List ℕ
-memoryOf c m b = if writes c then pokeOf m (c .current .address) b else m
+abbrev pub width : Channel → ℕ
+width c = sizeOf (word c)
 
--- A unit falls off if it writes or reads at an address outside: the byte written is lost, the byte read is FFH. Verify uses no memory, and never
--- falls off.
+abbrev pub startOf : ℕ → ℕ → ℕ
+startOf w a = a / w * w
+
+abbrev pub place : Channel → ℕ → ℕ
+place c i = startOf (width c) (c .current .address) + i
+
+abbrev pub hasByte : Channel → ℕ → Bool
+hasByte c i = ltb i (width c)
+
+-- Byte i of a unit: the device's x, or memory's. Verify gives 0, and so does a byte that the unit does not have. The one byte of a byte unit is the device's
+-- lower one, at odd addresses too.
+abbrev pub byteOf : Channel → List ℕ → ℕ → ℕ → ℕ
+byteOf c m i x =
+    if hasByte c i then (if writes c then x else if reads c then peekOf m (place c i) else 0) else 0
+
+-- The memory after byte i, and after the unit: the device's lower byte is b, its upper one u.
+abbrev pub storedOf : Channel → List ℕ → ℕ → ℕ → List ℕ
+storedOf c m i x = if hasByte c i and writes c then pokeOf m (place c i) x else m
+
+abbrev pub memoryOf : Channel → List ℕ → ℕ → ℕ → List ℕ
+memoryOf c m b u = storedOf c (storedOf c m 0 b) 1 u
+
+-- A byte of a unit falls off if it is written or read at an address outside: written it is lost, read it is FFH. Verify uses no memory, and never
+-- falls off. A unit falls off if either byte does.
+abbrev pub offAt : Channel → List ℕ → ℕ → Bool
+offAt c m i = hasByte c i and (writes c or reads c) and not (inMemory m (place c i))
+
 abbrev pub outsideOf : Channel → List ℕ → Bool
-outsideOf c m = (writes c or reads c) and not (inMemory m (c .current .address))
+outsideOf c m = offAt c m 0 or offAt c m 1
 
--- The two together: what the step that moves a unit hands on.
-abbrev pub carried : ℕ → Bool → Carried
-carried b o = record { byte = b; outside = o }
+-- All of it together: what the step that moves a unit hands on.
+abbrev pub carried : ℕ → ℕ → Bool → Carried
+carried b u o = record { byte = b; upper = u; outside = o }
 
-abbrev pub carriedOf : Channel → List ℕ → ℕ → Carried
-carriedOf c m b = carried (byteOf c m b) (outsideOf c m)
+abbrev pub carriedOf : Channel → List ℕ → ℕ → ℕ → Carried
+carriedOf c m b u = carried (byteOf c m 0 b) (byteOf c m 1 u) (outsideOf c m)
 
--- The next address, modulo 2^24, and the next count, modulo 2^16.
-abbrev pub stepped : ℕ → Bool → ℕ
-stepped a falls = if falls then (a + 16777215) % 16777216 else (a + 1) % 16777216
+-- The next unit's address is one unit further in the channel's direction, by 1 for bytes and by 2 for words, modulo 2^24; the count of units falls by
+-- one, modulo 2^16.
+abbrev pub stepped : ℕ → Bool → ℕ → ℕ
+stepped a falls w = if falls then (a + 16777216 - w) % 16777216 else (a + w) % 16777216
 
 abbrev pub next : Channel → Span
-next c = span (stepped (c .current .address) (down c)) (less (c .current .count))
+next c = span (stepped (c .current .address) (down c) (width c)) (less (c .current .count))
 
 -- The last unit is the one that finds the count at 0, or that END comes with. Service stops with the last unit, and in single
 -- mode with any.
@@ -157,29 +185,32 @@ settledOf d c last stop =
     d
 
 -- One unit, by its tests: it is the last, service stops.
-abbrev pub unitBy : Dma → Bool → Bool → ℕ → List ℕ → Out
-unitBy d last stop b m =
+abbrev pub unitBy : Dma → Bool → Bool → ℕ → ℕ → List ℕ → Out
+unitBy d last stop b u m =
     record {
       dma = settledOf d (movedOf (served d) last) last stop;
-      memory = memoryOf (served d) m b;
+      memory = memoryOf (served d) m b u;
       report =
-          moved (d .channel) last stop (served d .current .address) (byteOf (served d) m b) (outsideOf (served d) m);
+          moved (d .channel) last stop (served d .current .address)
+          (byteOf (served d) m 0 b)
+          (byteOf (served d) m 1 u)
+          (outsideOf (served d) m);
     }
 
-unfoldable pub unitOf : Dma → Bool → ℕ → List ℕ → Out
-unitOf d e b m = unitBy d (lastOf (served d) e) (stopsOf (served d) (lastOf (served d) e)) b m
+unfoldable pub unitOf : Dma → Bool → ℕ → ℕ → List ℕ → Out
+unitOf d e b u m = unitBy d (lastOf (served d) e) (stopsOf (served d) (lastOf (served d) e)) b u m
 
 -- A cycle, by its tests: serving; the served channel releases; disabled; no channel is ready.
-abbrev pub cycleBy : Dma → Bool → ℕ → List ℕ → Bool → Bool → Bool → Bool → Out
-cycleBy d e b m serving releases disabled unready =
-    if serving then (if releases then releasedOf d m else unitOf d e b m)
+abbrev pub cycleBy : Dma → Bool → ℕ → ℕ → List ℕ → Bool → Bool → Bool → Bool → Out
+cycleBy d e b u m serving releases disabled unready =
+    if serving then (if releases then releasedOf d m else unitOf d e b u m)
     else if disabled then nothingOf d m
     else if unready then nothingOf d m
     else grantedOf d (winner d) m
 
--- A cycle with END e and the device's byte b, which matter to a unit alone.
-unfoldable pub cycleOf : Dma → Bool → ℕ → List ℕ → Out
-cycleOf d e b m = cycleBy d e b m (d .serving) (releases d) (d .disabled) (eqb (winner d) 4)
+-- A cycle with END e, which matters to a unit alone, and the device's bytes: b matters to a unit that goes to memory, u to a word that does.
+unfoldable pub cycleOf : Dma → Bool → ℕ → ℕ → List ℕ → Out
+cycleOf d e b u m = cycleBy d e b u m (d .serving) (releases d) (d .disabled) (eqb (winner d) 4)
 
 -- Whether a cycle moves a unit of channel n, which is c, and no more: n is one of the four channels and is served, it does not release, and
 -- service does not stop with the unit. Of the chip such a cycle changes that channel's current address and count alone.

@@ -3,6 +3,7 @@ use Prim.Native.Nat.{ℕ}
 use mathlib.Core.List.{List}
 use mathlib.Core.Bool.{Bool, false}
 use lib.ListN.{getD}
+use Rattle.bits.specs.Bits.{bitOf}
 use Rattle.dma.specs.declared.Span.{Span}
 use Rattle.dma.specs.declared.Channel.{Channel}
 use Rattle.dma.specs.declared.Dma.{Dma}
@@ -38,11 +39,32 @@ selected d = chan d (d .selected)
 abbrev pub served : Dma → Channel
 served d = chan d (d .channel)
 
--- The chip with other channels; selection; device control and first rank; request lines.
+-- A channel's units are words if W/B, which is D0 of its mode byte, is 1. The width is no field of its own.
+abbrev pub word : Channel → Bool
+word c = bitOf (c .mode) 0
+
+-- The chip with other channels; bus width; selection; device control and first rank; request lines.
 abbrev pub channels-are : List Channel → Dma → Dma
 channels-are cs d =
     record {
       channels = cs;
+      wide = d .wide;
+      selected = d .selected;
+      base = d .base;
+      rotate = d .rotate;
+      disabled = d .disabled;
+      first = d .first;
+      serving = d .serving;
+      channel = d .channel;
+      requests = d .requests;
+      ends = d .ends;
+    }
+
+abbrev pub wide-is : Bool → Dma → Dma
+wide-is k d =
+    record {
+      channels = d .channels;
+      wide = k;
       selected = d .selected;
       base = d .base;
       rotate = d .rotate;
@@ -58,6 +80,7 @@ abbrev pub selection-is : ℕ → Bool → Dma → Dma
 selection-is n k d =
     record {
       channels = d .channels;
+      wide = d .wide;
       selected = n;
       base = k;
       rotate = d .rotate;
@@ -73,6 +96,7 @@ abbrev pub control-is : Bool → Bool → ℕ → Dma → Dma
 control-is rot dis f d =
     record {
       channels = d .channels;
+      wide = d .wide;
       selected = d .selected;
       base = d .base;
       rotate = rot;
@@ -88,6 +112,7 @@ abbrev pub requests-are : ℕ → Dma → Dma
 requests-are l d =
     record {
       channels = d .channels;
+      wide = d .wide;
       selected = d .selected;
       base = d .base;
       rotate = d .rotate;
@@ -104,6 +129,7 @@ abbrev pub turned : List Channel → Bool → ℕ → ℕ → ℕ → Dma → Dm
 turned cs s n f e d =
     record {
       channels = cs;
+      wide = d .wide;
       selected = d .selected;
       base = d .base;
       rotate = d .rotate;

@@ -2,7 +2,7 @@
 -- not open to it, 4 where it asks for what is not built; 2 and 4 change nothing.
 use Prim.Native.Nat.{ℕ, _+_, _*_, _/_, _%_}
 use mathlib.Core.List.{[], _∷_}
-use mathlib.Core.Bool.{Bool, true, false}
+use mathlib.Core.Bool.{Bool, true, false, not}
 use lib.Dec.{eqb, ltb, leb}
 use lib.ListN.{set}
 use Rattle.bits.specs.Choice.{if_then_else_, _and_, _or_}
@@ -13,9 +13,9 @@ use Rattle.dma.specs.declared.Dma.{Dma}
 use Rattle.dma.specs.declared.Written.{Written}
 use Rattle.dma.specs.declared.Got.{Got}
 use Rattle.dma.specs.declared.Seen.{Seen}
-use Rattle.dma.specs.Fields.{span, current-is, base-is, mode-is, masked-is, chan, selected, channels-are, selection-is, control-is, requests-are, turned}
+use Rattle.dma.specs.Fields.{span, current-is, base-is, mode-is, masked-is, chan, selected, word, channels-are, wide-is, selection-is, control-is, requests-are, turned}
 
--- Reset: every channel masked, all else zero.
+-- Reset: every channel masked, an 8-bit bus, all else zero.
 abbrev pub unset : Channel
 unset = record { current = span 0 0; base = span 0 0; mode = 0; masked = true }
 
@@ -23,6 +23,7 @@ unfoldable pub resetOf : Dma
 resetOf =
     record {
       channels = unset ∷ unset ∷ unset ∷ unset ∷ [];
+      wide = false;
       selected = 0;
       base = false;
       rotate = false;
@@ -44,12 +45,17 @@ taken d = record { status = 0; dma = d }
 abbrev pub refused : ℕ → Dma → Written
 refused s d = record { status = s; dma = d }
 
--- 0, initialize. 16B (D1) is not built. RES (D0) resets the chip, the request lines excepted.
+-- Some channel is set to move words.
+unfoldable pub anyWords : Dma → Bool
+anyWords d = word (chan d 0) or word (chan d 1) or word (chan d 2) or word (chan d 3)
+
+-- 0, initialize. With RES (D0) the chip is reset, the request lines stay, and 16B (D1) is the new width of the bus: 1 is 16 bits. Without RES the width
+-- alone changes, and the bus can't be made narrow while some channel is set to move words.
 unfoldable pub initializedOf : Dma → ℕ → Written
 initializedOf d x =
-    if bitOf x 1 then refused 4 d
-    else if bitOf x 0 then taken (requests-are (d .requests) resetOf)
-    else taken d
+    if bitOf x 0 then taken (wide-is (bitOf x 1) (requests-are (d .requests) resetOf))
+    else if not (bitOf x 1) and anyWords d then refused 4 d
+    else taken (wide-is (bitOf x 1) d)
 
 -- 1, channel: SELCH (D1-D0) and BASE (D2).
 unfoldable pub selectedOf : Dma → ℕ → Written
@@ -100,12 +106,16 @@ controlledOf d x =
 abbrev pub heldZero : Dma → ℕ → Written
 heldZero d x = if eqb x 0 then taken d else refused 4 d
 
--- A, mode control: TMODE (D7-D6), ADIR (D5), AUTI (D4), TDIR (D3-D2). TMODE 11, TDIR 11, D1 and D0 are not built.
+-- A, mode control: TMODE (D7-D6), ADIR (D5), AUTI (D4), TDIR (D3-D2), W/B (D0). TMODE 11, TDIR 11 and D1 are not built; W/B=1, words, needs
+-- the 16-bit bus.
 unfoldable pub unbuiltMode : ℕ → Bool
-unbuiltMode x = eqb (x / 64) 3 or eqb (x / 4 % 4) 3 or ltb 0 (x % 4)
+unbuiltMode x = eqb (x / 64) 3 or eqb (x / 4 % 4) 3 or bitOf x 1
+
+unfoldable pub refusesMode : Dma → ℕ → Bool
+refusesMode d x = unbuiltMode x or (bitOf x 0 and not (d .wide))
 
 unfoldable pub modedOf : Dma → ℕ → Written
-modedOf d x = if unbuiltMode x then refused 4 d else taken (chosen (mode-is x (selected d)) d)
+modedOf d x = if refusesMode d x then refused 4 d else taken (chosen (mode-is x (selected d)) d)
 
 -- F, masks: channel n in bit n.
 unfoldable pub maskedBy : Dma → ℕ → Dma
@@ -121,14 +131,14 @@ maskedBy d x =
 -- The registers, with the status where it is not 0:
 --
 --        written                          read
---   0    initialize; 4 with 16B           2
+--   0    initialize; 4 if neither bit is set while a channel moves words    2
 --   1    channel and BASE                 channel and BASE
 --   2-3  count, low byte first            count
 --   4-6  address, low byte first          address
 --   7    2                                2
 --   8    device control; 4 with other bits    device control
 --   9    zero; 4 otherwise                zero
---   A    mode control; 4 if not built     mode control
+--   A    mode control; 4 if not built, or words without 16B    mode control
 --   B    2                                status, which clears the end bits
 --   C-E  4                                4
 --   F    masks                            masks

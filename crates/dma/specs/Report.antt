@@ -7,8 +7,8 @@ use mathlib.Core.Bool.{Bool, true, false}
 use Rattle.dma.specs.declared.Report.{Report}
 use Rattle.dma.specs.declared.Report.the-variants.{Nothing, Granted, Moved, Released}
 
--- Kind: 0 nothing, 1 granted, 2 moved, 3 released. Stopped: service stopped. The address is that of the unit, the byte the
--- data moved. Outside: the unit fell off, so it wrote or read at an address outside the lent memory.
+-- Kind: 0 nothing, 1 granted, 2 moved, 3 released. Stopped: service stopped. The address is that of the unit, as its channel has it; the byte is the
+-- data moved, the upper one that of a word's odd address. Outside: some byte of the unit fell off, so it was written or read at an address outside the lent memory.
 pub record Told : Type 0 where
   pub kind : ℕ
   pub channel : ℕ
@@ -16,26 +16,27 @@ pub record Told : Type 0 where
   pub stopped : Bool
   pub address : ℕ
   pub byte : ℕ
+  pub upper : ℕ
   pub outside : Bool
 
 -- All is zero that a kind doesn't name; a release stops service.
 abbrev pub nothing : Told
-nothing = record { kind = 0; channel = 0; end = false; stopped = false; address = 0; byte = 0; outside = false }
+nothing = record { kind = 0; channel = 0; end = false; stopped = false; address = 0; byte = 0; upper = 0; outside = false }
 
 abbrev pub granted : ℕ → Told
-granted n = record { kind = 1; channel = n; end = false; stopped = false; address = 0; byte = 0; outside = false }
+granted n = record { kind = 1; channel = n; end = false; stopped = false; address = 0; byte = 0; upper = 0; outside = false }
 
-abbrev pub moved : ℕ → Bool → Bool → ℕ → ℕ → Bool → Told
-moved n e s a b o = record { kind = 2; channel = n; end = e; stopped = s; address = a; byte = b; outside = o }
+abbrev pub moved : ℕ → Bool → Bool → ℕ → ℕ → ℕ → Bool → Told
+moved n e s a b u o = record { kind = 2; channel = n; end = e; stopped = s; address = a; byte = b; upper = u; outside = o }
 
 abbrev pub released : ℕ → Told
-released n = record { kind = 3; channel = n; end = false; stopped = true; address = 0; byte = 0; outside = false }
+released n = record { kind = 3; channel = n; end = false; stopped = true; address = 0; byte = 0; upper = 0; outside = false }
 
 -- The numbers of each case.
 abbrev pub told : Report → Told
 told Nothing = nothing
 told (Granted n) = granted n
-told (Moved u) = moved (u .channel) (u .end) (u .stopped) (u .address) (u .byte) (u .outside)
+told (Moved u) = moved (u .channel) (u .end) (u .stopped) (u .address) (u .byte) (u .upper) (u .outside)
 told (Released n) = released n
 
 -- The report that some numbers tell of; so no two reports have the same numbers.
@@ -51,6 +52,7 @@ reportOf t =
       stopped = t .stopped;
       address = t .address;
       byte = t .byte;
+      upper = t .upper;
       outside = t .outside;
     })
     else Released (t .channel)

@@ -1,14 +1,16 @@
-// The 71071: four DMA channels that move bytes between a device and lent memory, one unit a bus cycle.
-// Not modelled: 16-bit transfers, memory to memory, software requests, cascade, bus timing.
+// The 71071: four DMA channels that move bytes or words between a device and lent memory, one unit a bus cycle.
+// Not modelled: memory to memory, software requests, cascade, bus timing.
 ghost use mathlib.Core.Path.{_≡_};
-ghost use mathlib.Core.Bool.{Bool};
+ghost use mathlib.Core.Bool.{Bool, not};
 ghost use mathlib.Core.List.{[]};
-ghost use Prim.Native.Nat.{_≤_, _<_};
-ghost use lib.ListN.{set};
+ghost use Prim.Native.Nat.{_+_, _≤_, _<_};
+ghost use lib.Dec.{ltb};
+ghost use lib.ListN.{set, length};
+ghost use Rattle.bits.specs.Choice.{if_then_else_};
 ghost use Rattle.dma.specs.Fields.{chan, channels-are};
-ghost use Rattle.dma.specs.Registers.{resetOf, requestedOf, taken, refused, initializedOf, selectedOf, replacedOf, loadedOf, keptFirst, controlledOf, heldZero, unbuiltMode, modedOf, maskedBy, writeOf, shows, unread, seenAs, byteAt, shownSpan, masksOf, readOf, seenOf};
+ghost use Rattle.dma.specs.Registers.{resetOf, requestedOf, taken, refused, anyWords, initializedOf, selectedOf, replacedOf, loadedOf, keptFirst, controlledOf, heldZero, unbuiltMode, refusesMode, modedOf, maskedBy, writeOf, shows, unread, seenAs, byteAt, shownSpan, masksOf, readOf, seenOf};
 ghost use Rattle.dma.specs.Report.{told, nothing};
-ghost use Rattle.dma.specs.Cycle.{ready, channelAt, winner, grantedOf, firstAfter, releases, releasedOf, inMemory, peekOf, pokeOf, carried, carriedOf, memoryOf, stepped, next, lastOf, stopsOf, movedOf, endsAfter, settledOf, unitOf, cycleOf, plainOf};
+ghost use Rattle.dma.specs.Cycle.{ready, channelAt, winner, grantedOf, firstAfter, releases, releasedOf, inMemory, peekOf, pokeOf, sizeOf, startOf, carried, carriedOf, memoryOf, stepped, next, lastOf, stopsOf, movedOf, endsAfter, settledOf, unitOf, cycleOf, plainOf};
 
 // Where a transfer stands, or starts: an address of 24 bits, and the units still to come, less one.
 #[repr(C)]
@@ -21,7 +23,7 @@ pub struct Span {
 pub struct Channel {
     pub current: Span,
     pub base: Span,
-    // TMODE D7-D6, ADIR D5, AUTI D4, TDIR D3-D2
+    // TMODE D7-D6, ADIR D5, AUTI D4, TDIR D3-D2, W/B D0: the width of its units
     pub mode: u8,
     pub masked: bool,
 }
@@ -29,6 +31,8 @@ pub struct Channel {
 #[repr(C)]
 pub struct Dma {
     pub channels: [Channel; 4],
+    // 16B: the data bus has 16 bits
+    pub wide: bool,
     // the channel that registers 2 to 6 and A are of, and whether 2 to 6 are its base alone
     pub selected: u8,
     pub base: bool,
@@ -86,30 +90,33 @@ pub struct Seen {
     pub ends: u8,
 }
 
-// What a unit carries: its byte, and whether its address lies outside the lent memory.
+// What a unit carries: its byte, a word's upper byte, and whether any of it lies outside the lent memory.
 pub struct Carried {
     pub byte: u8,
+    pub upper: u8,
     pub outside: bool,
 }
 
 impl Carried {
-    fn new(byte: u8, outside: bool) -> Carried
-        ensures { λ r. ⌜ r ≡ carried byte outside ⌝ }
+    fn new(byte: u8, upper: u8, outside: bool) -> Carried
+        ensures { λ r. ⌜ r ≡ carried byte upper outside ⌝ }
     {
         Carried {
             byte: byte,
+            upper: upper,
             outside: outside,
         }
     }
 }
 
-// One byte moved, or verified.
+// One byte or word moved, or verified.
 pub struct Unit {
     pub channel: u8,
     pub end: bool,
     pub stopped: bool,
     pub address: u32,
     pub byte: u8,
+    pub upper: u8,
     pub outside: bool,
 }
 
@@ -142,46 +149,94 @@ fn wide_count(b: u8) -> u16
     b as u16
 }
 
+// How many bytes of the memory have an address.
+fn room(memory: &[u8]) -> usize
+    ensures { λ r. ⌜ r ≡ (if ltb (length (now (memory .entry))) 16777216 then length (now (memory .entry)) else 16777216) ⌝ }
+{
+    if memory.len() < 16777216 {
+        return memory.len();
+    }
+    16777216
+}
+
 // Whether the memory has a byte at an address, and the address space too.
 fn is_inside(memory: &[u8], at: u32) -> bool
     ensures { λ r. ⌜ r ≡ inMemory (now (memory .entry)) at ⌝ }
 {
-    if at < Dma::SPACE {
-        return (at as usize) < memory.len();
-    }
-    false
+    (at as usize) < room(memory)
 }
 
-// The byte at an address, FFH past the end of the memory or of the address space.
-fn peek(memory: &[u8], at: u32) -> u8
-    ensures { λ r. ⌜ r ≡ peekOf (now (memory .entry)) at ⌝ }
+// The byte at an address, FFH outside.
+fn peek_byte(memory: &[u8], at: u32) -> Carried
+    ensures { λ r. ⌜ r ≡ carried (peekOf (now (memory .entry)) at) 0 (not (inMemory (now (memory .entry)) at)) ⌝ }
 {
     if is_inside(memory, at) {
-        return memory[at as usize];
+        return Carried::new(memory[at as usize], 0, false);
     }
-    255
+    Carried::new(255, 0, true)
 }
 
-// A byte at an address, lost past the end of the memory or of the address space. Answers whether it is there.
-fn poke(memory: &mut [u8], at: u32, b: u8) -> bool
-    ensures result { λ r. ⌜ r ≡ inMemory (now (memory .entry)) at ⌝ }
+// The bytes at an address and the next. Where the next one is inside, both are.
+fn peek_word(memory: &[u8], at: u32) -> Carried
+    requires { ⌜ at < 4294967295 ⌝ }
+    ensures { λ r. ⌜ r ≡ carried (peekOf (now (memory .entry)) at) (peekOf (now (memory .entry)) (at + 1)) (not (inMemory (now (memory .entry)) (at + 1))) ⌝ }
+{
+    let next = at + 1;
+    if is_inside(memory, next) {
+        return Carried::new(memory[at as usize], memory[next as usize], false);
+    }
+    let lower = peek_byte(memory, at);
+    Carried::new(lower.byte, 255, true)
+}
+
+// A byte at an address, lost outside.
+fn poke_byte(memory: &mut [u8], at: u32, b: u8) -> Carried
+    ensures result { λ r. ⌜ r ≡ carried b 0 (not (inMemory (now (memory .entry)) at)) ⌝ }
     ensures memory { λ _. ⌜ now (memory .exit) ≡ pokeOf (now (memory .entry)) at b ⌝ }
 {
     if is_inside(memory, at) {
         memory[at as usize] = b;
-        return true;
+        return Carried::new(b, 0, false);
     }
-    false
+    Carried::new(b, 0, true)
 }
 
-// The next address, modulo 2^24.
-fn next_address(a: u32, falls: bool) -> u32
-    ensures { λ r. ⌜ r ≡ stepped a falls ⌝ }
+// Two bytes at an address and the next. Where the next one is inside, both are.
+fn poke_word(memory: &mut [u8], at: u32, b: u8, upper: u8) -> Carried
+    requires { ⌜ at < 4294967295 ⌝ }
+    ensures result { λ r. ⌜ r ≡ carried b upper (not (inMemory (now (memory .entry)) (at + 1))) ⌝ }
+    ensures memory { λ _. ⌜ now (memory .exit) ≡ pokeOf (pokeOf (now (memory .entry)) at b) (at + 1) upper ⌝ }
 {
-    if falls {
-        return (a % Dma::SPACE + 16777215) % Dma::SPACE;
+    let next = at + 1;
+    if is_inside(memory, next) {
+        memory[at as usize] = b;
+        memory[next as usize] = upper;
+        return Carried::new(b, upper, false);
     }
-    (a % Dma::SPACE + 1) % Dma::SPACE
+    let lower = poke_byte(memory, at, b);
+    Carried::new(lower.byte, upper, true)
+}
+
+// How many bytes a unit has.
+fn size(word: bool) -> u32
+    ensures { λ r. ⌜ r ≡ sizeOf word ⌝ }
+    ensures { λ r. ⌜ r ≤ 2 ⌝ }
+{
+    if word {
+        return 2;
+    }
+    1
+}
+
+// The address of the next unit, modulo 2^24.
+fn next_address(a: u32, falls: bool, word: bool) -> u32
+    ensures { λ r. ⌜ r ≡ stepped a falls (sizeOf word) ⌝ }
+{
+    let by = size(word);
+    if falls {
+        return (a % Dma::SPACE + Dma::SPACE - by) % Dma::SPACE;
+    }
+    (a % Dma::SPACE + by) % Dma::SPACE
 }
 
 impl Span {
@@ -232,14 +287,23 @@ impl Span {
     }
 }
 
+// The even address at or below an address.
+fn even(a: u32) -> u32
+    ensures { λ r. ⌜ r ≡ startOf 2 a ⌝ }
+    ensures { λ r. ⌜ r < 4294967295 ⌝ }
+{
+    a / 2 * 2
+}
+
 impl Channel {
     // Current after a unit.
     fn step(self) -> Span
         ensures { λ r. ⌜ r ≡ next self ⌝ }
     {
         let falls = bits::bit(self.mode, 5);
+        let word = bits::bit(self.mode, 0);
         Span {
-            address: next_address(self.current.address, falls),
+            address: next_address(self.current.address, falls, word),
             count: bits::one_less(self.current.count),
         }
     }
@@ -285,21 +349,27 @@ impl Channel {
         self.mode / 64 == 1
     }
 
-    // Moves the byte, and says whether its address lies outside the memory; verify moves none, answers 0 and has no such address.
-    pub fn transfer(self, byte: u8, memory: &mut [u8]) -> Carried
-        ensures result { λ r. ⌜ r ≡ carriedOf self (now (memory .entry)) byte ⌝ }
-        ensures memory { λ _. ⌜ now (memory .exit) ≡ memoryOf self (now (memory .entry)) byte ⌝ }
+    // Moves the unit, and says whether any of it lies outside the memory. A word at an odd address uses the even one below. Verify moves nothing, answers 0 and has
+    // nothing outside.
+    pub fn transfer(self, byte: u8, upper: u8, memory: &mut [u8]) -> Carried
+        ensures result { λ r. ⌜ r ≡ carriedOf self (now (memory .entry)) byte upper ⌝ }
+        ensures memory { λ _. ⌜ now (memory .exit) ≡ memoryOf self (now (memory .entry)) byte upper ⌝ }
     {
+        let word = bits::bit(self.mode, 0);
         let direction = self.mode / 4 % 4;
         if direction == 1 {
-            let inside = poke(memory, self.current.address, byte);
-            return Carried::new(byte, !inside);
+            if word {
+                return poke_word(memory, even(self.current.address), byte, upper);
+            }
+            return poke_byte(memory, self.current.address, byte);
         }
-        let outside = !is_inside(memory, self.current.address);
         if direction == 2 {
-            return Carried::new(peek(memory, self.current.address), outside);
+            if word {
+                return peek_word(memory, even(self.current.address));
+            }
+            return peek_byte(memory, self.current.address);
         }
-        Carried::new(0, false)
+        Carried::new(0, 0, false)
     }
 }
 
@@ -362,7 +432,7 @@ impl Dma {
 
     pub const MASK: u8 = 15;
 
-    // Every channel masked, all else zero.
+    // Every channel masked, an 8-bit bus, all else zero.
     pub fn reset() -> Dma
         ensures { λ r. ⌜ r ≡ resetOf ⌝ }
     {
@@ -378,6 +448,7 @@ impl Dma {
         };
         Dma {
             channels: [unset, unset, unset, unset],
+            wide: false,
             selected: 0,
             base: false,
             rotate: false,
@@ -449,19 +520,46 @@ impl Dma {
         self
     }
 
-    // Register 0: RES resets all but the request lines, which are no register.
+    // Whether any channel moves words.
+    fn has_words(self) -> bool
+        ensures { λ r. ⌜ r ≡ anyWords self ⌝ }
+    {
+        let c0 = self.channel_at(0);
+        let c1 = self.channel_at(1);
+        let c2 = self.channel_at(2);
+        let c3 = self.channel_at(3);
+        if bits::bit(c0.mode, 0) {
+            return true;
+        }
+        if bits::bit(c1.mode, 0) {
+            return true;
+        }
+        if bits::bit(c2.mode, 0) {
+            return true;
+        }
+        bits::bit(c3.mode, 0)
+    }
+
+    // Register 0: RES resets all but the request lines, which are no register; 16B is the width of the bus, and no channel may move words without it.
     fn initialize(self, x: u8) -> Written
         ensures { λ r. ⌜ r ≡ initializedOf self x ⌝ }
     {
-        if bits::bit(x, 1) {
-            return Written::refused(4, self);
-        }
+        let wide = bits::bit(x, 1);
         if bits::bit(x, 0) {
             let mut fresh = Dma::reset();
+            fresh.wide = wide;
             fresh.requests = self.requests;
             return Written::taken(fresh);
         }
-        Written::taken(self)
+        let mut next = self;
+        next.wide = wide;
+        if wide {
+            return Written::taken(next);
+        }
+        if self.has_words() {
+            return Written::refused(4, self);
+        }
+        Written::taken(next)
     }
 
     // Register 1: the channel that other registers are of, and BASE.
@@ -526,7 +624,7 @@ impl Dma {
         Written::refused(4, self)
     }
 
-    // TMODE 11, TDIR 11, and the two low bits.
+    // TMODE 11, TDIR 11, and D1.
     pub fn is_unbuilt_mode(x: u8) -> bool
         ensures { λ r. ⌜ r ≡ unbuiltMode x ⌝ }
     {
@@ -536,14 +634,28 @@ impl Dma {
         if x / 4 % 4 == 3 {
             return true;
         }
-        0 < x % 4
+        bits::bit(x, 1)
+    }
+
+    // The same, and words on an 8-bit bus.
+    fn does_refuse_mode(self, x: u8) -> bool
+        ensures { λ r. ⌜ r ≡ refusesMode self x ⌝ }
+    {
+        if Dma::is_unbuilt_mode(x) {
+            return true;
+        }
+        let words = bits::bit(x, 0);
+        if words {
+            return !self.wide;
+        }
+        false
     }
 
     // Register A, of the selected channel.
     fn set_mode(self, x: u8) -> Written
         ensures { λ r. ⌜ r ≡ modedOf self x ⌝ }
     {
-        if Dma::is_unbuilt_mode(x) {
+        if self.does_refuse_mode(x) {
             return Written::refused(4, self);
         }
         let mut c = self.channel_at(self.selected);
@@ -784,17 +896,17 @@ impl Dma {
     }
 
     // One unit of the served channel.
-    fn move_unit(self, end: bool, byte: u8, memory: &mut [u8]) -> Cycle
-        ensures dma { λ r. ⌜ r .dma ≡ unitOf self end byte (now (memory .entry)) .dma ⌝ }
-        ensures report { λ r. ⌜ told (r .report) ≡ unitOf self end byte (now (memory .entry)) .report ⌝ }
-        ensures memory { λ _. ⌜ now (memory .exit) ≡ unitOf self end byte (now (memory .entry)) .memory ⌝ }
+    fn move_unit(self, end: bool, byte: u8, upper: u8, memory: &mut [u8]) -> Cycle
+        ensures dma { λ r. ⌜ r .dma ≡ unitOf self end byte upper (now (memory .entry)) .dma ⌝ }
+        ensures report { λ r. ⌜ told (r .report) ≡ unitOf self end byte upper (now (memory .entry)) .report ⌝ }
+        ensures memory { λ _. ⌜ now (memory .exit) ≡ unitOf self end byte upper (now (memory .entry)) .memory ⌝ }
     {
         let c = self.channel_at(self.channel);
         let last = c.is_last(end);
         let stop = c.does_stop(last);
         let next = c.advance(last);
         let settled = self.settle(next, last, stop);
-        let carried = c.transfer(byte, memory);
+        let carried = c.transfer(byte, upper, memory);
         Cycle {
             dma: settled,
             report: Report::Moved(Unit {
@@ -803,6 +915,7 @@ impl Dma {
                 stopped: stop,
                 address: c.current.address,
                 byte: carried.byte,
+                upper: carried.upper,
                 outside: carried.outside,
             }),
         }
@@ -859,17 +972,17 @@ impl Dma {
         }
     }
 
-    // One bus cycle. END and the device's byte matter to a unit alone: a grant or a release ignores both.
-    pub fn cycle(self, end: bool, byte: u8, memory: &mut [u8]) -> Cycle
-        ensures dma { λ r. ⌜ r .dma ≡ cycleOf self end byte (now (memory .entry)) .dma ⌝ }
-        ensures report { λ r. ⌜ told (r .report) ≡ cycleOf self end byte (now (memory .entry)) .report ⌝ }
-        ensures memory { λ _. ⌜ now (memory .exit) ≡ cycleOf self end byte (now (memory .entry)) .memory ⌝ }
+    // One bus cycle. END and the device's bytes matter to a unit alone, the upper one to a word: a grant or a release ignores them.
+    pub fn cycle(self, end: bool, byte: u8, upper: u8, memory: &mut [u8]) -> Cycle
+        ensures dma { λ r. ⌜ r .dma ≡ cycleOf self end byte upper (now (memory .entry)) .dma ⌝ }
+        ensures report { λ r. ⌜ told (r .report) ≡ cycleOf self end byte upper (now (memory .entry)) .report ⌝ }
+        ensures memory { λ _. ⌜ now (memory .exit) ≡ cycleOf self end byte upper (now (memory .entry)) .memory ⌝ }
     {
         if self.serving {
             if self.does_release() {
                 return self.release();
             }
-            return self.move_unit(end, byte, memory);
+            return self.move_unit(end, byte, upper, memory);
         }
         if self.disabled {
             return self.rest();

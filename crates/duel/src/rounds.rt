@@ -7,6 +7,7 @@ use rival::counts::Tally;
 use rival::modes;
 use rival::modes::Modes;
 use rival::places;
+use rival::places::Places;
 use rival::requests;
 use rival::requests::Requests;
 use rival::show;
@@ -32,11 +33,11 @@ const LENGTHS: [u32; 16] = [
     17,
     1000,
     2,
-    4096,
+    5,
     100,
     257,
     2048,
-    8,
+    9,
     255,
 ];
 
@@ -53,7 +54,7 @@ pub struct Counted {
     modes: Modes,
     requests: Requests,
     slave: Slave,
-    pub places: Tally,
+    pub places: Places,
 }
 
 fn fill(memory: &mut Memory, seed: u32) {
@@ -228,7 +229,7 @@ fn none_yet() -> Counted {
         modes: modes::zero(),
         requests: requests::zero(),
         slave: slave::zero(),
-        places: counts::zero(),
+        places: places::zero(),
     }
 }
 

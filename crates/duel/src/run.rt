@@ -1,4 +1,4 @@
-// Runs the charts of files: tapes with their answers, as text. Each chart runs on both boards, from reset, over 256 zero bytes of memory: on the second
+// Runs the charts of files: tapes with their answers, as text. Each chart runs on both boards, from reset, over zero bytes of memory: on the second
 // record by record, on the first in lumps. Files are read in lumps too, so they may have any length.
 use super::first;
 use libc::STDERR_FILENO;
@@ -8,6 +8,7 @@ use rival::counts::Tally;
 use rival::modes;
 use rival::notation;
 use rival::notation::Line;
+use rival::places;
 use rival::requests;
 use rival::show;
 use rival::slave;
@@ -27,12 +28,13 @@ pub struct Totals {
     pub written: bool,
 }
 
-// A chart under way: its name, its records with the answers typed in, and whether all its lines read well.
+// A chart under way: its name, the length of its memory, its records with the answers typed in, and whether all its lines read well.
 struct Chart {
     open: bool,
     well: bool,
     name: [u8; 64],
     length: usize,
+    memory: usize,
     records: usize,
     tape: Tape,
     typed: Answers,
@@ -66,6 +68,7 @@ fn no_chart() -> Chart {
         well: true,
         name: [0; 64],
         length: 0,
+        memory: 256,
         records: 0,
         tape: [0; 512],
         typed: [stretch::UNWRITTEN; 1088],
@@ -103,7 +106,7 @@ fn complain(path: &[u8], line: u64, fault: u32) {
     show::write_row(
         STDERR_FILENO,
         b"
-a line begins with z, w, r, l, k, a, c, x, # or /
+a line begins with z, w, r, l, k, a, c, x, m, # or /
 neither a hex digit (0-9, A-F) nor a blank, a colon or a semicolon
 the colon is missing
 the semicolon is missing
@@ -113,7 +116,7 @@ too few numbers
 a number is over FF, or the pulses are over FFFFFFFF
 a chart has to have a name
 a name has 64 letters at most
-a record before the first chart's name
+a record or a memory before the first chart's name
 a chart has 64 records at most
 the file ends inside this line",
         fault,
@@ -157,8 +160,8 @@ fn agree_otherwise(a: &Memory, b: &Memory, calls: Tally) -> bool {
     true
 }
 
-// A chart of n records on both boards. Its number draws the lumps.
-fn both_agree(tape: &Tape, typed: &Answers, n: usize, number: u32) -> bool {
+// A chart of n records on both boards, over the first `length` bytes of a memory. Its number draws the lumps.
+fn both_agree(tape: &Tape, typed: &Answers, n: usize, length: usize, number: u32) -> bool {
     let mut first_memory = [0u8; 4096];
     let mut second_memory = [0u8; 4096];
     let mut first_answers = [stretch::UNWRITTEN; 1088];
@@ -168,12 +171,12 @@ fn both_agree(tape: &Tape, typed: &Answers, n: usize, number: u32) -> bool {
             modes::zero(),
             requests::zero(),
             slave::zero(),
-            counts::zero(),
+            places::zero(),
         ),
         tape,
         n,
         &mut second_memory,
-        256,
+        length,
         &mut second_answers,
     );
     let run = first::run_first(
@@ -181,7 +184,7 @@ fn both_agree(tape: &Tape, typed: &Answers, n: usize, number: u32) -> bool {
         tape,
         n,
         &mut first_memory,
-        256,
+        length,
         &mut first_answers,
     );
     let second = agrees(b"the second", typed, &second_answers);
@@ -224,7 +227,7 @@ fn run_chart(chart: Chart, number: u64) -> Outcome {
     }
     let tape = chart.tape;
     let typed = chart.typed;
-    if both_agree(&tape, &typed, n, (number % 65536) as u32 + 1) {
+    if both_agree(&tape, &typed, n, chart.memory, (number % 65536) as u32 + 1) {
         return Outcome {
             agreed: true,
             written: show::print_with(b"ok, % records\n", n as u64, 0, 0, 0),
@@ -291,14 +294,28 @@ fn join(reader: Reader) -> Reader {
     next
 }
 
+// The chart's memory has another length.
+fn lend(reader: Reader) -> Reader {
+    let mut chart = reader.chart;
+    chart.memory = second::index(reader.line.memory);
+    let mut next = reader;
+    next.chart = chart;
+    next
+}
+
 // What is wrong with the line that has ended: in itself, or where it stands.
 fn fault_of(chart: Chart, line: Line) -> u32 {
     let fault = notation::fault_of(line);
-    if (fault != notation::NOTHING) | (line.part != notation::WHOLE) {
+    let whole = line.part == notation::WHOLE;
+    if (fault != notation::NOTHING) | !(whole | (line.part == notation::LENT)) {
         return fault;
     }
     if chart.open {
-        return second::choose(chart.records >= 64, notation::FULL, notation::NOTHING);
+        return second::choose(
+            whole & (chart.records >= 64),
+            notation::FULL,
+            notation::NOTHING,
+        );
     }
     notation::HOMELESS
 }
@@ -309,6 +326,7 @@ fn obey(reader: Reader) -> Reader {
     match part {
         notation::NAME => open(reader),
         notation::WHOLE => join(reader),
+        notation::LENT => lend(reader),
         _ => reader,
     }
 }

@@ -75,6 +75,7 @@ fn same_channels(a: Dma, b: Dma) -> bool {
 
 fn same_dma(a: Dma, b: Dma) -> bool {
     same_channels(a, b)
+        & (a.wide == b.wide)
         & (a.selected == b.selected)
         & (a.base == b.base)
         & (a.rotate == b.rotate)

@@ -60,7 +60,7 @@ fn spoil_timer(t: Timer, draw: u32) -> Timer {
 
 fn spoil_channel(c: Channel, draw: u32) -> Channel {
     let mut next = c;
-    match draw % 5 {
+    match draw % 6 {
         0 => {
             let mut span = c.current;
             span.address = 16777216;
@@ -81,8 +81,12 @@ fn spoil_channel(c: Channel, draw: u32) -> Channel {
             next.mode = 0x0C;
             return next;
         }
-        _ => {
+        4 => {
             next.mode = 0x02;
+            return next;
+        }
+        _ => {
+            next.mode = 0x03;
             return next;
         }
     }

@@ -5,8 +5,9 @@ use mathlib.Core.Bool.{Bool, true, false, not, true≢false, false≢true}
 use mathlib.Core.List.{[], _∷_}
 use native.Mathlib.Omega.{arith}
 use lib.Dec.{eqb, ltb}
-use borrow.Author.Tests.{eqb-true, ltb-true, ltb-false, eq-eqb, ne-eqb, lt-ltb, le-ltb}
+use borrow.Author.Tests.{eqb-true, eqb-false, ltb-true, ltb-false, eq-eqb, ne-eqb, lt-ltb, le-ltb}
 use Rattle.bits.specs.Choice.{if_then_else_, _and_, _or_, every}
+use Rattle.bits.specs.Bits.{bitOf}
 use Rattle.bits.proofs.Every.{alike}
 use Rattle.icu.specs.declared.Icu.{Icu}
 use Rattle.timer.specs.declared.Counter.{Counter}
@@ -75,24 +76,24 @@ mode-is {b} r n =
     mode-test v ∙ both-right (ltb (at (b .timer) n .format) 4) (modeTest v) (counter-is r n)
 
 built : (v : ℕ) → unbuiltMode v ≡ false → modes v ≡ true
-unfolding unbuiltMode
-built v h = go (eqb (v / 64) 3) (eqb (v / 4 % 4) 3) (ltb 0 (v % 4)) refl h
+unfolding unbuiltMode bitOf
+built v h = go (eqb (v / 64) 3) (eqb (v / 4 % 4) 3) (eqb (v / 2 % 2) 1) refl h
   where
-    go : (p q w : Bool) → ltb 0 (v % 4) ≡ w → (p or q or w) ≡ false → (not p and not q and eqb (v % 4) 0) ≡ true
+    go : (p q w : Bool) → eqb (v / 2 % 2) 1 ≡ w → (p or q or w) ≡ false → (not p and not q and eqb (v / 2 % 2) 0) ≡ true
     go true q w e h = absurd (true≢false h)
     go false true w e h = absurd (true≢false h)
     go false false true e h = absurd (true≢false h)
-    go false false false e h = eq-eqb (v % 4) 0 (omega (arith, ltb-false 0 (v % 4) e))
+    go false false false e h = eq-eqb (v / 2 % 2) 0 (omega (arith, eqb-false (v / 2 % 2) 1 e))
 
 -- The test, and the sets.
 unbuilt : (v : ℕ) → modes v ≡ true → unbuiltMode v ≡ false
-unfolding unbuiltMode
+unfolding unbuiltMode bitOf
 unbuilt v h = go (eqb (v / 64) 3) (eqb (v / 4 % 4) 3) h
   where
-    go : (p q : Bool) → (not p and not q and eqb (v % 4) 0) ≡ true → (p or q or ltb 0 (v % 4)) ≡ false
+    go : (p q : Bool) → (not p and not q and eqb (v / 2 % 2) 0) ≡ true → (p or q or eqb (v / 2 % 2) 1) ≡ false
     go true q h = absurd (false≢true h)
     go false true h = absurd (false≢true h)
-    go false false h = le-ltb 0 (v % 4) (omega (arith, eqb-true (v % 4) 0 h))
+    go false false h = ne-eqb (v / 2 % 2) 1 (omega (arith, eqb-true (v / 2 % 2) 0 h))
 
 counter-good : (c : Counter) → c .format < 4 → among (c .mode) (0 ∷ 1 ∷ 2 ∷ 3 ∷ 4 ∷ 5 ∷ 255 ∷ []) ≡ true → counterGood c ≡ true
 unfolding counterGood
@@ -250,6 +251,7 @@ exact =
       channel-mode = λ n l. exactly (λ v h. up.channel-mode n v l (h .0) (h .1))
           (λ b r. (reached-typed r .mode n, built (chan (b .dma) n .mode) (reached-sound r .good n .built)));
       masked = λ n l. both (λ b. chan (b .dma) n .masked) (λ v h. up.masked n v l h);
+      wide = both (λ b. b .dma .wide) up.wide;
       selected = exactly up.selected (λ b r. reached-sound r .selected);
       base = both (λ b. b .dma .base) up.base;
       rotate = both (λ b. b .dma .rotate) up.rotate;

@@ -358,7 +358,7 @@ base-units (suc (suc (suc (suc n)))) v hn h = absurd (omega arith)
 pub channel-mode : (n v : ℕ) → n < 4 → v < 256 → modes v ≡ true → Has (λ b. channel-of n b .mode) v
 unfolding rules joined board areBytes
 channel-mode n v hn h g =
-    by-runs (λ n b. channel-of n b .mode) (λ n v. writing 33 n ∷ writing 42 v ∷ []) modes 4 256 tt n v hn h g
+    by-runs (λ n b. channel-of n b .mode) (λ n v. writing 32 2 ∷ writing 33 n ∷ writing 42 v ∷ []) modes 4 256 tt n v hn h g
 
 pub masked : (n v : ℕ) → n < 4 → v < 2 → Has (λ b. weighed (channel-of n b .masked) 1) v
 unfolding rules joined board areBytes
@@ -369,6 +369,10 @@ masked n v hn h =
 pub selected : (v : ℕ) → v < 4 → Has (λ b. b .dma .selected) v
 unfolding rules joined board areBytes
 selected v h = by-runs (λ n b. b .dma .selected) (λ n v. writing 33 v ∷ []) any 1 4 tt 0 v (omega arith) h refl
+
+pub wide : (v : ℕ) → v < 2 → Has (λ b. weighed (b .dma .wide) 1) v
+unfolding rules joined board areBytes
+wide = flag _ (writing 32 2 ∷ []) refl refl refl
 
 pub base : (v : ℕ) → v < 2 → Has (λ b. weighed (b .dma .base) 1) v
 unfolding rules joined board areBytes

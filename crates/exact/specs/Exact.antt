@@ -46,7 +46,7 @@ counter n b = at (b .timer) n
 abbrev pub channel-of : ℕ → Board → Channel
 channel-of n b = chan (b .dma) n
 
--- IW1: none yet (00H), or a byte with D4 set. INTP: bit 0 is clear. A channel's mode: D7-D6 and D3-D2 are not 11, D1 and D0 are clear.
+-- IW1: none yet (00H), or a byte with D4 set. INTP: bit 0 is clear. A channel's mode: D7-D6 and D3-D2 are not 11, D1 is clear.
 abbrev pub iw1s : ℕ → Bool
 iw1s v = eqb v 0 or bitOf v 4
 
@@ -54,7 +54,7 @@ abbrev pub evens : ℕ → Bool
 evens v = eqb (v % 2) 0
 
 abbrev pub modes : ℕ → Bool
-modes v = not (eqb (v / 64) 3) and not (eqb (v / 4 % 4) 3) and eqb (v % 4) 0
+modes v = not (eqb (v / 64) 3) and not (eqb (v / 4 % 4) 3) and eqb (v / 2 % 2) 0
 
 -- The bytes that pass a test.
 abbrev pub ByteWith : (ℕ → Bool) → ℕ → Type 0
@@ -120,6 +120,7 @@ pub record Exact : Type 0 where
   pub channel-mode : (n : ℕ) → n < 4 → Exactly (λ b. channel-of n b .mode) (ByteWith modes)
   pub masked : (n : ℕ) → n < 4 → Both (λ b. channel-of n b .masked)
   -- The chip's own.
+  pub wide : Both (λ b. b .dma .wide)
   pub selected : Exactly (λ b. b .dma .selected) (Below 4)
   pub base : Both (λ b. b .dma .base)
   pub rotate : Both (λ b. b .dma .rotate)

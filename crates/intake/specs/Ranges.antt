@@ -29,7 +29,8 @@ counterGood c = ltb (c .format) 4 and (ltb (c .mode) 6 or eqb (c .mode) 255)
 unfoldable pub timerGood : Timer → Bool
 timerGood t = counterGood (at t 0) and counterGood (at t 1) and counterGood (at t 2)
 
--- A channel: addresses of 24 bits, and one of the 36 modes that are built.
+-- A channel: addresses of 24 bits, and one of the 72 modes that are built. (One of words is in range on the 8-bit bus, too, though no tape leads there: each field is
+-- tested by itself.)
 unfoldable pub channelGood : Channel → Bool
 channelGood c =
     ltb (c .current .address) 16777216 and ltb (c .base .address) 16777216 and not (unbuiltMode (c .mode))

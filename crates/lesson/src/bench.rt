@@ -5,6 +5,7 @@ use crate::row;
 use board::Board;
 use libc::STDERR_FILENO;
 use libc::STDOUT_FILENO;
+use words::answered;
 use words::notation;
 use words::notation::Parsed;
 use words::pieces;
@@ -38,7 +39,7 @@ struct Bench {
     kept: [u8; 16],
     records: u64,
     refused: u64,
-    // units past the end of memory, to it and from it
+    // bytes past the end of memory, to it and from it
     lost: u64,
     unread: u64,
     bad: u64,
@@ -127,23 +128,43 @@ fn run_record(
     let s = before.step(r, memory);
     let a = s.answer;
     let after = s.board;
-    mark(marks, row::written(before, a));
+    let arriving = row::moved(before, a, answered::TO_MEMORY);
+    let leaving = row::moved(before, a, answered::FROM_MEMORY);
+    mark_unit(marks, sentences::four(a, 8), arriving);
     let mut next = bench;
     next.board = after;
     next.records = text::more(bench.records);
     if a[0] != 0 {
         next.refused = text::more(bench.refused);
     }
-    if row::is_past_the_end(before, a, row::TO_MEMORY) {
-        next.lost = text::more(bench.lost);
-    }
-    if row::is_past_the_end(before, a, row::FROM_MEMORY) {
-        next.unread = text::more(bench.unread);
+    if answered::is_outside(a) {
+        next.lost = add(bench.lost, arriving);
+        next.unread = add(bench.unread, leaving);
     }
     if print_record(before, bench, r, a) {
         return next;
     }
     end_with(next, output::fail())
+}
+
+// Counts the bytes of a unit. A word past the end of memory has both there, since the memory's length is even.
+fn add(n: u64, bytes: u8) -> u64 {
+    match bytes {
+        0 => n,
+        1 => text::more(n),
+        _ => text::more(text::more(n)),
+    }
+}
+
+// Marks what a unit of so many bytes was written to: of a word, its address and the other one of that pair.
+fn mark_unit(marks: &mut [u8; 65536], address: u32, bytes: u8) {
+    if bytes == 0 {
+        return;
+    }
+    mark(marks, address);
+    if bytes == 2 {
+        mark(marks, address ^ 1);
+    }
 }
 
 // Marks an address of the memory as written.

@@ -49,8 +49,8 @@ pub fn answered(board: Board, r: [u8; 8], a: [u8; 16]) -> Text {
     if a[0] != 0 {
         return refusal(board, r, a[0]);
     }
-    let n = answered::done(a[1], a[4], unit(board, a[5]), r[1]);
-    let done = sentences::answered(n, answered::facts(a));
+    let n = answered::done(a[1], a[4], r[1]);
+    let done = sentences::answered(n, answered::facts(a, way(board, a[5])));
     if a[1] == 4 {
         return acknowledged(board, done);
     }
@@ -81,43 +81,21 @@ fn lines_of(board: Board) -> u8 {
     intp
 }
 
-const VERIFIED: u8 = 0x09;
-
-pub const TO_MEMORY: u8 = 0x0a;
-
-pub const FROM_MEMORY: u8 = 0x0b;
-
-// The sentence for a unit of a channel.
-fn unit(board: Board, channel: u8) -> u8 {
+// Which way the units of a channel go, and whether they are words.
+fn way(board: Board, channel: u8) -> u8 {
     let d = board.dma;
     let i = (channel % 4) as usize;
     let c = d.channels[i];
-    match c.mode / 4 % 4 {
-        1 => TO_MEMORY,
-        2 => FROM_MEMORY,
-        _ => VERIFIED,
-    }
+    answered::way(c.mode)
 }
 
-// Whether the answer is of a unit that goes one way, to memory or from it.
-fn is_unit(board: Board, a: [u8; 16], way: u8) -> bool {
-    if a[0] != 0 {
-        return false;
+// How many bytes the answer's unit moved one way, to memory or from it.
+pub fn moved(board: Board, a: [u8; 16], to: u8) -> u8 {
+    let way = way(board, a[5]);
+    if answered::is_unit(a) && way % 4 == to {
+        return answered::size(way);
     }
-    answered::done(a[1], a[4], unit(board, a[5]), 1) == way
-}
-
-// Whether it is, and the unit was past the end of memory: one to memory is lost, one from it reads FF.
-pub fn is_past_the_end(board: Board, a: [u8; 16], way: u8) -> bool {
-    answered::is_outside(a) && is_unit(board, a, way)
-}
-
-// The address that the answer's unit was written to; past every memory where none was.
-pub fn written(board: Board, a: [u8; 16]) -> u32 {
-    if is_unit(board, a, TO_MEMORY) {
-        return sentences::four(a, 8);
-    }
-    u32::MAX
+    0
 }
 
 // Why a record was refused, worked out from the record and the board before it.
@@ -128,18 +106,26 @@ fn refusal(board: Board, r: [u8; 8], status: u8) -> Text {
     let needed = r[0] == 4 && m.stage == Icu::READY;
     let slave = needed || is_slave(r[1]);
     let i = chip(board, slave);
-    let mut f = sentences::facts(
-        r,
-        status,
-        d.channel,
-        has_two_bytes(board, r[1]) as u8,
-        i.stage,
-    );
+    let mut f = sentences::facts(r, status, 0, has_two_bytes(board, r[1]) as u8, i.stage);
+    f[9] = d.channel;
+    if !d.serving {
+        f[9] = word_channels(board);
+    }
     f[12] = slave as u8;
     f[13] = set_up(m);
     f[14] = set_up(board.slave);
     f[15] = needed as u8;
     sentences::refused(answered::reason(f), f)
+}
+
+// A bit for each channel whose mode is of words.
+fn word_channels(board: Board) -> u8 {
+    let d = board.dma;
+    let c0 = d.channels[0];
+    let c1 = d.channels[1];
+    let c2 = d.channels[2];
+    let c3 = d.channels[3];
+    c0.mode % 2 | c1.mode % 2 << 1 | c2.mode % 2 << 2 | c3.mode % 2 << 3
 }
 
 // How an interrupt chip is set up: bit 0 vector mode, bit 1 single.

@@ -103,7 +103,7 @@ module _ (kept : List ℕ) (n : ℕ) where
     execute-aside (SlaveIntp l) m = refl
     execute-aside Acknowledge m = acknowledge-aside
     execute-aside (Advance k) m = refl
-    execute-aside (Cycle e x) m = refl
+    execute-aside (Cycle e x y) m = refl
 
     outcome-aside : (d : Decoded) (m : List ℕ) → outcomeOf (K b) d m ≡ O (outcomeOf b d m)
     unfolding outcomeOf blocked
@@ -121,7 +121,7 @@ module _ (kept : List ℕ) (n : ℕ) where
     carried-aside (SlaveIntp l) m = refl
     carried-aside Acknowledge m = refl
     carried-aside (Advance k) m = refl
-    carried-aside (Cycle e x) m = refl
+    carried-aside (Cycle e x y) m = refl
 
     memory-by : (d : Decoded) (m : List ℕ) → memoryOf (K b) d m ≡ memoryOf b d m
     unfolding memoryOf blocked

@@ -41,7 +41,7 @@ module _ (r : List ℕ) (six : byte r 0 ≡ 6) (low : byte r 1 ≡ 0) where
   other : (n : ℕ) {A : Type 0} → eqb (byte r 0) n ≡ true → n ≢ 6 → A
   other n o h = absurd (h (sym (eqb-true (byte r 0) n o) ∙ six))
 
-  is-cycle : (x : Decoded) → Decodes r x → asked x ≡ true → x ≡ Asked (Cycle false (byte r 2))
+  is-cycle : (x : Decoded) → Decodes r x → asked x ≡ true → x ≡ Asked (Cycle false (byte r 2) (byte r 3))
   is-cycle x malformed a = absurd (false≢true a)
   is-cycle x (reset o) a = other 0 o (omega arith)
   is-cycle x (write o p) a = other 1 o (omega arith)
@@ -61,25 +61,25 @@ module _ (b : Board) (r m : List ℕ) (h : plainCycle r ≡ true) where
   six : byte r 0 ≡ 6
   six = eqb-true (byte r 0) 6 (both-left (eqb (byte r 0) 6) (eqb (byte r 1) 0) more)
 
-  decoded : decodeOf r ≡ Asked (Cycle false (byte r 2))
+  decoded : decodeOf r ≡ Asked (Cycle false (byte r 2) (byte r 3))
   decoded =
       is-cycle r six (eqb-true (byte r 1) 0 (both-right (eqb (byte r 0) 6) (eqb (byte r 1) 0) more)) (decodeOf r) (decodes r)
       (formed-asked r ∙ sym (same-formed r) ∙ both-left (formed r) (eqb (byte r 0) 6 and eqb (byte r 1) 0) h)
 
   -- Nothing holds up a cycle.
-  outcome : outcomeOf b (decodeOf r) m ≡ executeOf b (Cycle false (byte r 2)) m
+  outcome : outcomeOf b (decodeOf r) m ≡ executeOf b (Cycle false (byte r 2) (byte r 3)) m
   unfolding outcomeOf blocked
   outcome = rw decoded (go (b .dma .serving))
     where
-      go : (q : Bool) → (if q and false then refused 1 b else executeOf b (Cycle false (byte r 2)) m) ≡ executeOf b (Cycle false (byte r 2)) m
+      go : (q : Bool) → (if q and false then refused 1 b else executeOf b (Cycle false (byte r 2) (byte r 3)) m) ≡ executeOf b (Cycle false (byte r 2) (byte r 3)) m
       go true = refl
       go false = refl
 
-  pub cycle-dma : stepOf b r m .board .dma ≡ DmaCycle.cycleOf (b .dma) false (byte r 2) m .dma
+  pub cycle-dma : stepOf b r m .board .dma ≡ DmaCycle.cycleOf (b .dma) false (byte r 2) (byte r 3) m .dma
   unfolding stepOf answeredOf executeOf cycleOf
   cycle-dma = ap (λ (o : Outcome). o .board .dma) outcome
 
-  pub cycle-answer : stepOf b r m .answer ≡ cycleAnswer (levelsOf (stepOf b r m .board)) (DmaCycle.cycleOf (b .dma) false (byte r 2) m .report)
+  pub cycle-answer : stepOf b r m .answer ≡ cycleAnswer (levelsOf (stepOf b r m .board)) (DmaCycle.cycleOf (b .dma) false (byte r 2) (byte r 3) m .report)
   unfolding stepOf answeredOf executeOf cycleOf
   cycle-answer = rw (outcome, six)
 
@@ -99,27 +99,27 @@ pub record Serves (d : Dma) (k q n : ℕ) : Type 0 where
   pub keeps : (eqb (q / 64) 0 and not (bitOf (d .requests) k)) ≡ false
 
 -- One cycle with END 0: a unit, which is the last or not, and service stops with the last and in single mode.
-module _ (d : Dma) (k q n x : ℕ) (m : List ℕ) (g : Serves d k q n) where
+module _ (d : Dma) (k q n x y : ℕ) (m : List ℕ) (g : Serves d k q n) where
   at-k : served d ≡ chan d k
   at-k = ap (λ (i : ℕ). chan d i) (g .channel)
 
   keeps-bus : releases d ≡ false
   keeps-bus =
       ap (λ (i : ℕ). demand (chan d i) and not (bitOf (d .requests) i)) (g .channel)
-      ∙ ap (λ (y : ℕ). eqb (y / 64) 0 and not (bitOf (d .requests) k)) (g .left .mode)
+      ∙ ap (λ (z : ℕ). eqb (z / 64) 0 and not (bitOf (d .requests) k)) (g .left .mode)
       ∙ g .keeps
 
-  pub by-unit : (last : Bool) → eqb n 0 ≡ last → DmaCycle.cycleOf d false x m ≡ unitBy d last (last or eqb (q / 64) 1) x m
+  pub by-unit : (last : Bool) → eqb n 0 ≡ last → DmaCycle.cycleOf d false x y m ≡ unitBy d last (last or eqb (q / 64) 1) x y m
   unfolding DmaCycle.cycleOf unitOf
   by-unit true h = rw (g .serving, keeps-bus, at-k, g .left .count, g .left .mode, h)
   by-unit false h = rw (g .serving, keeps-bus, at-k, g .left .count, g .left .mode, h)
 
   -- It reports a unit of channel k.
-  pub reports : (l : ℕ) → Words.unitOf k (cycleAnswer l (DmaCycle.cycleOf d false x m .report)) ≡ true
+  pub reports : (l : ℕ) → Words.unitOf k (cycleAnswer l (DmaCycle.cycleOf d false x y m .report)) ≡ true
   unfolding answerOf
   reports l = go (eqb n 0) refl
     where
-      go : (last : Bool) → eqb n 0 ≡ last → Words.unitOf k (cycleAnswer l (DmaCycle.cycleOf d false x m .report)) ≡ true
+      go : (last : Bool) → eqb n 0 ≡ last → Words.unitOf k (cycleAnswer l (DmaCycle.cycleOf d false x y m .report)) ≡ true
       go last h = rw (by-unit last h) (eq-eqb (d .channel) k (g .channel))
 
   there : (last : Bool) → getD (set (d .channels) (d .channel) (movedOf (served d) last)) k none ≡ movedOf (chan d k) last
@@ -128,18 +128,18 @@ module _ (d : Dma) (k q n x : ℕ) (m : List ℕ) (g : Serves d k q n) where
       ∙ getD-set-same (d .channels) k (movedOf (chan d k) last) none (rw (g .left .four) (g .left .few))
 
   -- The last unit masks a channel without autoinitialize.
-  pub shut-after : bitOf q 4 ≡ false → (stop : Bool) → chan (unitBy d true stop x m .dma) k .masked ≡ true
+  pub shut-after : bitOf q 4 ≡ false → (stop : Bool) → chan (unitBy d true stop x y m .dma) k .masked ≡ true
   unfolding movedOf
   shut-after h stop =
       ap (λ (c : Channel). c .masked) (there true)
-      ∙ ap (λ (y : ℕ). movedBy (chan d k) true (bitOf y 4) .masked) (g .left .mode)
+      ∙ ap (λ (z : ℕ). movedBy (chan d k) true (bitOf z 4) .masked) (g .left .mode)
       ∙ ap (λ (u : Bool). movedBy (chan d k) true u .masked) h
 
 -- Any other leaves one less to go.
-pub left-after : (d : Dma) (k q n x : ℕ) (m : List ℕ) → Serves d k q (suc n) → (stop : Bool) → Left (unitBy d false stop x m .dma) k q n
+pub left-after : (d : Dma) (k q n x y : ℕ) (m : List ℕ) → Serves d k q (suc n) → (stop : Bool) → Left (unitBy d false stop x y m .dma) k q n
 unfolding movedOf
-left-after d k q n x m g stop =
-    let e = there d k q (suc n) x m g false in
+left-after d k q n x y m g stop =
+    let e = there d k q (suc n) x y m g false in
     let one-less : less (chan d k .current .count) ≡ n = omega (arith, g .left .count, g .left .small) in
     record {
       four = length-set (d .channels) (d .channel) (movedOf (served d) false) ∙ g .left .four;
@@ -182,11 +182,11 @@ serves : (d : Dma) (k q n : ℕ) → Goes d k q n → Serves d k q n
 serves d k q n g =
     record { left = g .left; serving = g .serving; channel = g .channel; keeps = not-released q (bitOf (d .requests) k) (g .on) }
 
-pub goes-on : (d : Dma) (k q n x : ℕ) (m : List ℕ) → Goes d k q (suc n) → Goes (DmaCycle.cycleOf d false x m .dma) k q n
-goes-on d k q n x m g =
+pub goes-on : (d : Dma) (k q n x y : ℕ) (m : List ℕ) → Goes d k q (suc n) → Goes (DmaCycle.cycleOf d false x y m .dma) k q n
+goes-on d k q n x y m g =
     let s = serves d k q (suc n) g in
-    rw (by-unit d k q (suc n) x m s false (ne-eqb (suc n) 0 (omega arith)), not-single q (bitOf (d .requests) k) (g .on))
-    (record { left = left-after d k q n x m s false; serving = refl; channel = g .channel; on = g .on })
+    rw (by-unit d k q (suc n) x y m s false (ne-eqb (suc n) 0 (omega arith)), not-single q (bitOf (d .requests) k) (g .on))
+    (record { left = left-after d k q n x y m s false; serving = refl; channel = g .channel; on = g .on })
 
 -- One answer more: a unit more if it reports one of channel k.
 abbrev pub counted : Bool → ℕ → ℕ
@@ -232,7 +232,7 @@ module _ (b : Board) (m s : List ℕ) (k q n : ℕ) (g : Goes (b .dma) k q n) (c
   going (suc i) j e =
       let r = recordAt s i in
       rw (cycle-dma (here i .board) r (here i .memory) (c i (omega arith)))
-      (goes-on (here i .board .dma) k q j (byte r 2) (here i .memory) (going i (suc j) (omega arith)))
+      (goes-on (here i .board .dma) k q j (byte r 2) (byte r 3) (here i .memory) (going i (suc j) (omega arith)))
 
   -- The first i cycles moved i units.
   pub moved : (i : ℕ) → i ≤ suc n → length (unitsOf k (answersIn (after b m s i .answers) i)) ≡ i
@@ -242,17 +242,17 @@ module _ (b : Board) (m s : List ℕ) (k q n : ℕ) (g : Goes (b .dma) k q n) (c
       let r = recordAt s i in
       let g = serves (here i .board .dma) k q (n - i) (going i (n - i) (omega arith)) in
       let u : Words.unitOf k (stepOf (here i .board) r (here i .memory) .answer) ≡ true =
-      rw (cycle-answer (here i .board) r (here i .memory) (c i (omega arith))) (reports (here i .board .dma) k q (n - i) (byte r 2) (here i .memory) g _) in
+      rw (cycle-answer (here i .board) r (here i .memory) (c i (omega arith))) (reports (here i .board .dma) k q (n - i) (byte r 2) (byte r 3) (here i .memory) g _) in
       run-more b m s k i ∙ rw u (ap suc (moved i (omega arith)))
 
   -- The chip after the last unit.
-  ended : after b m s (suc n) .board .dma ≡ unitBy (here n .board .dma) true true (byte (recordAt s n) 2) (here n .memory) .dma
+  ended : after b m s (suc n) .board .dma ≡ unitBy (here n .board .dma) true true (byte (recordAt s n) 2) (byte (recordAt s n) 3) (here n .memory) .dma
   unfolding after
   ended =
       let r = recordAt s n in
       cycle-dma (here n .board) r (here n .memory) (c n (omega arith))
       ∙ ap (λ (o : DmaCycle.Out). o .dma)
-      (by-unit (here n .board .dma) k q 0 (byte r 2) (here n .memory) (serves (here n .board .dma) k q 0 (going n 0 (omega arith))) true refl)
+      (by-unit (here n .board .dma) k q 0 (byte r 2) (byte r 3) (here n .memory) (serves (here n .board .dma) k q 0 (going n 0 (omega arith))) true refl)
 
   pub stopped : after b m s (suc n) .board .dma .serving ≡ false
   stopped = ap (λ (d : Dma). d .serving) ended
@@ -260,4 +260,4 @@ module _ (b : Board) (m s : List ℕ) (k q n : ℕ) (g : Goes (b .dma) k q n) (c
   pub shut : bitOf q 4 ≡ false → chan (after b m s (suc n) .board .dma) k .masked ≡ true
   shut h =
       ap (λ (d : Dma). chan d k .masked) ended
-      ∙ shut-after (here n .board .dma) k q 0 (byte (recordAt s n) 2) (here n .memory) (serves (here n .board .dma) k q 0 (going n 0 (omega arith))) h true
+      ∙ shut-after (here n .board .dma) k q 0 (byte (recordAt s n) 2) (byte (recordAt s n) 3) (here n .memory) (serves (here n .board .dma) k q 0 (going n 0 (omega arith))) h true

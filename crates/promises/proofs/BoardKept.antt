@@ -130,7 +130,7 @@ module _ (b : Board) (h : Held b) where
         (λ _. let k = advanced (joined b) (b .timer) (b .icu) (pulseCount r) (h .timer) (h .icu) in
         record { intp = h .intp; icu = k .1; slave = h .slave; timer = k .0 })
     execute-held x (cycle o) =
-        either P (blocked b (Cycle (eqb (byte r 1) 1) (byte r 2))) (λ _. h) (λ _. unchanged)
+        either P (blocked b (Cycle (eqb (byte r 1) 1) (byte r 2) (byte r 3))) (λ _. h) (λ _. unchanged)
 
     pub step-held : Held (stepOf b r m .board)
     unfolding stepOf answeredOf

@@ -4,17 +4,18 @@ use mathlib.Core.Logic.{_≢_}
 use mathlib.Core.List.{List}
 use mathlib.Core.Bool.{Bool, true, false, true≢false}
 use Prim.Native.Nat.{ℕ, _<_}
-use lib.Dec.{eqb, ltb}
-use lib.ListN.{getD, set, length, length-set}
+use lib.Dec.{eqb}
+use lib.ListN.{getD, set, length}
 use lib.Seq.{getD-set-same, getD-set-other}
 use borrow.Author.Tests.{eqb-true, eqb-false, eq-eqb}
 use Rattle.bits.specs.Choice.{if_then_else_}
 use Rattle.dma.specs.declared.Channel.{Channel}
 use Rattle.dma.specs.declared.Dma.{Dma}
 use Rattle.dma.specs.Fields.{none, chan, served}
-use Rattle.dma.specs.Cycle.{auto, writes, movedBy, movedOf}
-use Rattle.promises.specs.Words.{unitOf, addressIn, dataIn}
+use Rattle.dma.specs.Cycle.{auto, movedBy, movedOf}
+use Rattle.promises.specs.Words.{unitOf, addressIn, dataIn, upperIn}
 use Rattle.promises.proofs.Sound.{Sound}
+use Rattle.promises.proofs.Landed.{unit-length}
 use Rattle.promises.proofs.Seen.{Seen, still, unit, Serves, goes-on, starts}
 
 -- A channel that moves on keeps its mode; without autoinitialize it is masked at its end.
@@ -84,11 +85,6 @@ pub mode-kept : (d e : Dma) (a : List ℕ) (n : ℕ) → Change d e a n → chan
 mode-kept d e a n (rests q _ _) = ap (λ (c : Channel). c .mode) q
 mode-kept d e a n (goes last q _ _ _ _ _) = ap (λ (c : Channel). c .mode) q ∙ moved-mode (chan d n) last
 
-poke-length : (m : List ℕ) (p x : ℕ) (w t : Bool) → length (if w then (if t then set m p x else m) else m) ≡ length m
-poke-length m p x true true = length-set m p x
-poke-length m p x true false = refl
-poke-length m p x false t = refl
-
 pub length-kept : (d : Dma) (m : List ℕ) (e : Dma) (l a : List ℕ) → Seen d m e l a → length l ≡ length m
 length-kept d m e l a (still _ q _ _) = ap length q
-length-kept d m e l a (unit _ _ _ _ q _ _ _ _) = ap length q ∙ poke-length m (served d .current .address) (dataIn a) (writes (served d)) (ltb (served d .current .address) 16777216)
+length-kept d m e l a (unit _ _ _ _ q _ _ _ _) = ap length q ∙ unit-length (served d) m (dataIn a) (upperIn a)

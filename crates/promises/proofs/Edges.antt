@@ -725,7 +725,7 @@ module _ (b : Board) (k : ℕ) (low : k < 8) (fit : Fit b) (is-backed : Backed b
         either Does (blocked b (Advance (pulseCount r))) (λ _. refuses 1 refl)
         (λ _. advances o (pulseCount r) (omega (arith, leb-true (pulseCount r) 65535 l)))
     does x (cycle o) =
-        either Does (blocked b (Cycle (eqb (byte r 1) 1) (byte r 2))) (λ _. refuses 1 refl)
+        either Does (blocked b (Cycle (eqb (byte r 1) 1) (byte r 2) (byte r 3))) (λ _. refuses 1 refl)
         (λ _. still _ (apart-from 6 o refl refl refl refl _) refl refl (λ p. p) refl)
 
     pub goes : Goes b r (stepOf b r m .answer) k (stepOf b r m .board)

@@ -1,10 +1,12 @@
 pub mod Opened
 pub mod Logic
+pub mod Landed
 pub mod Lists
 pub mod Sound
 pub mod Seen
 pub mod Change
 pub mod Moves
+pub mod Bus
 pub mod Bytes
 pub mod Ranges
 pub mod Steps
@@ -23,6 +25,7 @@ pub mod Calls
 pub mod Demand1
 pub mod Outside
 pub mod Aside
+pub mod Pairs
 pub mod Parts
 pub mod Fit
 pub mod Lumps
@@ -47,6 +50,7 @@ pub mod Chopped
 pub mod Waves
 pub mod Edges
 pub mod Withdrawn
+pub mod Narrow
 pub mod OneChip
 pub mod SlaveKept
 pub mod Cascade

@@ -346,7 +346,7 @@ module _ (b : Board) (l : Lone b) where
     memory-same (Asked (SlaveIntp x)) = either-way (blocked b (SlaveIntp x))
     memory-same (Asked Acknowledge) = either-way (blocked b Acknowledge)
     memory-same (Asked (Advance n)) = either-way (blocked b (Advance n))
-    memory-same (Asked (Cycle e x)) = rw (and-false (b .dma .serving)) refl
+    memory-same (Asked (Cycle e x y)) = rw (and-false (b .dma .serving)) refl
 
     -- One record.
     module _ (r : List ℕ) (names : namesSlave r ≡ false) (starts : startsExtended r ≡ false) where
@@ -417,7 +417,7 @@ module _ (b : Board) (l : Lone b) where
           (λ _. either Good (eqb (byte r 0) 5)
           (λ _. asks (unused r 1 3 and leb (pulseCount r) 65535) (Advance (pulseCount r)) (λ _. advances (pulseCount r)))
           (λ _. either Good (eqb (byte r 0) 6)
-          (λ _. asks (unused r 3 5 and leb p 1) (Cycle (eqb p 1) x)
+          (λ _. asks (unused r 4 4 and leb p 1) (Cycle (eqb p 1) x (byte r 3))
           (λ _. same refl refl refl refl (stays-lone _ refl refl master)))
           (λ _. unknown)))))))
 

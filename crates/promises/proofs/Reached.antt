@@ -16,6 +16,7 @@ use Rattle.intake.proofs.Calls.{none-left}
 use Rattle.promises.specs.Reached.{Bytes, Reached, unfed, fed, uncut, ReachedBoards}
 use Rattle.promises.specs.Chopped.{Lump, Left, Room}
 use Rattle.promises.proofs.Sizes.{take-bytes, fed-keeps, typed-of, keeps-of, reached-typed}
+use Rattle.promises.proofs.Narrow.{narrow}
 use Rattle.promises.proofs.Fit.{Fit, fit-in-range, long, fit-of, fit-fed, fit-reached}
 use Rattle.promises.proofs.Aside.{step-aside, memory-aside}
 use Rattle.promises.proofs.Parts.{after-before}
@@ -93,6 +94,7 @@ reached =
     record {
       in-range = λ r. fit-in-range (fit-reached r);
       typed = reached-typed;
+      narrow = narrow;
       zeros-after = past-zero;
       goes-on = λ b h t tape m room bytes.
           let f = fit-fed b tape m room (fit-of b h t) in

@@ -1,5 +1,5 @@
 -- The table as it is read from the document is the table in the words of the rules.
-use mathlib.Core.Path.{_≡_, refl, sym, ap, _∙_, subst}
+use mathlib.Core.Path.{_≡_, refl, sym, ap, ap₂, _∙_, subst}
 use mathlib.Core.List.{List, [], _∷_}
 use mathlib.Core.Bool.{Bool, true, false, not}
 use Prim.Native.Nat.{ℕ, zero, suc, _+_, _*_, _/_, _%_, _≤_, _<_}
@@ -22,6 +22,8 @@ use Rattle.timer.specs.Modes.{moded}
 use Rattle.timer.specs.Ports.{sizeOf}
 use Rattle.timer.specs.Timer.{at}
 use Rattle.timer.proofs.Pulses.{by-mode}
+use Rattle.dma.specs.declared.Dma.{Dma}
+use Rattle.dma.specs.Fields.{chan}
 use Rattle.dma.specs.Registers as Registers
 use Rattle.board.specs.declared.Board.{Board}
 use Rattle.board.specs.Operations.{a0}
@@ -68,12 +70,15 @@ open-read p = go (ltb p 50) refl
         ∙ sym (rw (le-ltb p 2 (omega arith), le-leb 16 p (omega arith), le-ltb p 20 (omega arith), le-leb 32 p (omega arith), le-ltb p 48 (omega arith), le-leb 48 p (omega arith), q) refl)
 
 -- The bytes that an operation does not use.
+four : (a b c d : Bool) → (a and b and c and d) ≡ (a and b and c and d and true)
+four true true true true = refl
+four true true true false = refl
+four true true false d = refl
+four true false c d = refl
+four false b c d = refl
+
 five : (a b c d e : Bool) → (a and b and c and d and e) ≡ (a and b and c and d and e and true)
-five true true true true true = refl
-five true true true true false = refl
-five true true true false e = refl
-five true true false d e = refl
-five true false c d e = refl
+five true b c d e = four b c d e
 five false b c d e = refl
 
 six : (a b c d e f : Bool) → (a and b and c and d and e and f) ≡ (a and b and c and d and e and f and true)
@@ -104,7 +109,7 @@ same-formed r =
     (rows (eqb (getD r 0 0) 3) (pairs two refl)
     (rows (eqb (getD r 0 0) 4) none
     (rows (eqb (getD r 0 0) 5) refl
-    (rows (eqb (getD r 0 0) 6) (pairs two refl) refl))))))
+    (rows (eqb (getD r 0 0) 6) (pairs three refl) refl))))))
   where
     none : uses r [] ≡ unused r 1 7
     none = seven (zeroAt r 1) (zeroAt r 2) (zeroAt r 3) (zeroAt r 4) (zeroAt r 5) (zeroAt r 6) (zeroAt r 7)
@@ -114,6 +119,9 @@ same-formed r =
 
     two : uses r (1 ∷ 2 ∷ []) ≡ unused r 3 5
     two = five (zeroAt r 3) (zeroAt r 4) (zeroAt r 5) (zeroAt r 6) (zeroAt r 7)
+
+    three : uses r (1 ∷ 2 ∷ 3 ∷ []) ≡ unused r 4 4
+    three = four (zeroAt r 4) (zeroAt r 5) (zeroAt r 6) (zeroAt r 7)
 
 -- A last "or" of a list.
 two-of : (p q : Bool) → (p or q or false) ≡ (p or q)
@@ -204,10 +212,40 @@ same-device x =
     ∙ alike Table.unbuiltDeviceControl otherThanD4D2 256 tt (x % 256) (omega arith)
     ∙ ap (λ (y : ℕ). not (eqb y 0)) (sym (low-masked x))
 
-same-unbuilt : (x : ℕ) → Table.unbuiltMode x ≡ Registers.unbuiltMode x
-unfolding Registers.unbuiltMode every
-same-unbuilt x =
-    ap (λ (q : Bool). eqb (x / 64) 3 or eqb (x / 4 % 4) 3 or q) (alike (λ y. not (eqb y 0)) (λ y. ltb 0 y) 4 tt (x % 4) (omega arith))
+same-mode : (d : Dma) (x : ℕ) → Table.refusedMode d x ≡ Registers.refusesMode d x
+unfolding Registers.refusesMode Registers.unbuiltMode bitOf
+same-mode d x =
+    let e : x % 2 ≡ x / 1 % 2 = omega arith in
+    ap (λ (y : ℕ). eqb (x / 64) 3 or eqb (x / 4 % 4) 3 or eqb (x / 2 % 2) 1 or (eqb y 1 and not (d .wide))) e
+    ∙ go (eqb (x / 64) 3) (eqb (x / 4 % 4) 3) (eqb (x / 2 % 2) 1) (eqb (x / 1 % 2) 1 and not (d .wide))
+  where
+    go : (p q r s : Bool) → (p or q or r or s) ≡ ((p or q or r) or s)
+    go true q r s = refl
+    go false true r s = refl
+    go false false r s = refl
+
+-- D0 and D1, by themselves and both clear.
+bit-0 : (y : ℕ) → eqb (y % 2) 1 ≡ bitOf y 0
+unfolding bitOf
+bit-0 y = let e : y % 2 ≡ y / 1 % 2 = omega arith in ap (λ (z : ℕ). eqb z 1) e
+
+both-clear : (x : ℕ) → eqb (x % 4) 0 ≡ (not (bitOf x 0) and not (bitOf x 1))
+unfolding bitOf every
+both-clear x =
+    let a : x % 4 / 1 % 2 ≡ x / 1 % 2 = omega arith in
+    let b : x % 4 / 2 % 2 ≡ x / 2 % 2 = omega arith in
+    alike (λ y. eqb y 0) (λ y. not (eqb (y / 1 % 2) 1) and not (eqb (y / 2 % 2) 1)) 4 tt (x % 4) (omega arith)
+    ∙ ap₂ (λ (y z : ℕ). not (eqb y 1) and not (eqb z 1)) a b
+
+same-bus : (d : Dma) (x : ℕ) → Table.narrowsUnderWords d x ≡ (not (bitOf x 0) and not (bitOf x 1) and Registers.anyWords d)
+unfolding Registers.anyWords
+same-bus d x =
+    rw (both-clear x, bit-0 (chan d 0 .mode), bit-0 (chan d 1 .mode), bit-0 (chan d 2 .mode), bit-0 (chan d 3 .mode))
+    (go (not (bitOf x 0)) (not (bitOf x 1)) (bitOf (chan d 0 .mode) 0 or bitOf (chan d 1 .mode) 0 or bitOf (chan d 2 .mode) 0 or bitOf (chan d 3 .mode) 0))
+  where
+    go : (p q r : Bool) → ((p and q) and r) ≡ (p and q and r)
+    go true q r = refl
+    go false q r = refl
 
 -- A port is one of those that are named, or none of them.
 module _ (At : ℕ → Type 0) (p : ℕ) where
@@ -328,14 +366,14 @@ module _ (b : Board) (x : ℕ) where
       else if eqb p 1 then Table.otherWiring (b .icu) 128 x
       else if eqb p 49 then Table.otherWiring (b .slave) 7 x
       else if eqb p 19 then Table.unbuiltControl x
-      else if eqb p 32 then bitOf x 1
+      else if eqb p 32 then Table.narrowsUnderWords (b .dma) x
       else if eqb p 40 then Table.unbuiltDeviceControl x
       else if eqb p 41 then not (eqb x 0)
-      else if eqb p 42 then Table.unbuiltMode x
+      else if eqb p 42 then Table.refusedMode (b .dma) x
       else among p (44 ∷ 45 ∷ 46 ∷ []))
       ≡ (if icuPort p then Ruled.unbuiltWord (b .icu) masterIw3 (a0 p) x
       else if timerPort p then eqb (p % 4) 3 and Ruled.unbuiltControl x
-      else if dmaPort p then Ruled.unbuiltRegister (p % 16) x
+      else if dmaPort p then Ruled.unbuiltRegister (b .dma) (p % 16) x
       else slavePort p and Ruled.unbuiltWord (b .slave) slaveIw3 (a0 p) x)
 
   -- The registers that are neither named by the row nor past the others: in each the two agree by computing.
@@ -350,10 +388,10 @@ module _ (b : Board) (x : ℕ) where
       (λ d. at-port Unbuilt p 17 refl
       (λ e. at-port Unbuilt p 18 refl
       (λ f. at-port Unbuilt p 19 refl
-      (λ g. at-port Unbuilt p 32 refl
+      (λ g. at-port Unbuilt p 32 (same-bus (b .dma) x)
       (λ p32. at-port Unbuilt p 40 (same-device x)
       (λ p40. at-port Unbuilt p 41 refl
-      (λ p41. at-port Unbuilt p 42 (same-unbuilt x)
+      (λ p41. at-port Unbuilt p 42 (same-mode (b .dma) x)
       (λ p42. rw (a, c, s, t, g, p32, p40, p41, p42, no-icu p a c, no-timer p d e f g, no-slave p s t)
       (others p32 p40 p41 p42 (leb 32 p) (ltb p 48) refl refl)))))))))))))
     where
@@ -365,7 +403,7 @@ module _ (b : Board) (x : ℕ) where
           → (u v : Bool)
           → leb 32 p ≡ u
           → ltb p 48 ≡ v
-          → among p (44 ∷ 45 ∷ 46 ∷ []) ≡ (if u and v then Ruled.unbuiltRegister (p % 16) x else false)
+          → among p (44 ∷ 45 ∷ 46 ∷ []) ≡ (if u and v then Ruled.unbuiltRegister (b .dma) (p % 16) x else false)
       others h0 h8 h9 h10 true true l u =
           let i = leb-true 32 p l in
           let j = ltb-true p 48 u in

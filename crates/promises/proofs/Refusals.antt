@@ -126,7 +126,7 @@ module _ (b : Board) where
     execute-plain (SlaveIntp l) = no
     execute-plain Acknowledge = acknowledge-plain
     execute-plain (Advance n) = no
-    execute-plain (Cycle e x) = no
+    execute-plain (Cycle e x y) = no
 
     outcome-plain : (x : Decoded) → P (outcomeOf b x m)
     unfolding outcomeOf
@@ -144,7 +144,7 @@ module _ (b : Board) where
     execute-memory (SlaveIntp l) h = refl
     execute-memory Acknowledge h = refl
     execute-memory (Advance n) h = refl
-    execute-memory (Cycle e x) h = no h
+    execute-memory (Cycle e x y) h = no h
 
     outcome-memory : (x : Decoded) → eqb (outcomeOf b x m .status) 0 ≡ false → memoryOf b x m ≡ m
     unfolding outcomeOf memoryOf

@@ -14,7 +14,8 @@ use Rattle.timer.specs.declared.Timer.{Timer}
 use Rattle.timer.specs.Modes.{modeOf, moded}
 use Rattle.timer.specs.Ports.{SC, RWM, BCD, sizeOf}
 use Rattle.timer.specs.Timer.{at}
-use Rattle.dma.specs.Registers.{unbuiltMode}
+use Rattle.dma.specs.declared.Dma.{Dma}
+use Rattle.dma.specs.Registers.{anyWords, refusesMode}
 use Rattle.board.specs.declared.Board.{Board}
 use Rattle.board.specs.Operations.{a0}
 
@@ -42,7 +43,7 @@ formed r =
     else if eqb (op r) 3 then unused r 3 5 and levelsFit (byte r 1) (byte r 2)
     else if eqb (op r) 4 then unused r 1 7
     else if eqb (op r) 5 then unused r 1 3 and leb (pulseCount r) 65535
-    else if eqb (op r) 6 then unused r 3 5 and leb (byte r 1) 1
+    else if eqb (op r) 6 then unused r 4 4 and leb (byte r 1) 1
     else false
 
 -- Row 1: a write, a read or an acknowledge while DMA serves a channel.
@@ -87,13 +88,14 @@ unbuiltWord c w high x =
 abbrev pub unbuiltControl : ℕ → Bool
 unbuiltControl x = eqb (SC x) 3 or (not (eqb (RWM x) 0) and eqb (BCD x) 1)
 
--- Row 4, the DMA chip: register 0 with D1=1; other bits than D4 and D2 in 8, any in 9; in A mode 11, direction 11, D1 or D0; C, D and E.
-abbrev pub unbuiltRegister : ℕ → ℕ → Bool
-unbuiltRegister n x =
-    if eqb n 0 then bitOf x 1
+-- Row 4, the DMA chip: register 0 with D0=D1=0 while a channel moves words; other bits than D4 and D2 in 8, any in 9; in A mode 11, direction 11, D1, or words on an
+-- 8-bit bus; C, D and E.
+abbrev pub unbuiltRegister : Dma → ℕ → ℕ → Bool
+unbuiltRegister d n x =
+    if eqb n 0 then not (bitOf x 0) and not (bitOf x 1) and anyWords d
     else if eqb n 8 then not (eqb (maskedOf x 20) 0)
     else if eqb n 9 then not (eqb x 0)
-    else if eqb n 10 then unbuiltMode x
+    else if eqb n 10 then refusesMode d x
     else leb 12 n and ltb n 15
 
 -- Row 4: not built.
@@ -102,7 +104,7 @@ notBuilt b r =
     if eqb (op r) 1 then
     (if icuPort (port r) then unbuiltWord (b .icu) masterIw3 (a0 (port r)) (datum r)
     else if timerPort (port r) then eqb (port r % 4) 3 and unbuiltControl (datum r)
-    else if dmaPort (port r) then unbuiltRegister (port r % 16) (datum r)
+    else if dmaPort (port r) then unbuiltRegister (b .dma) (port r % 16) (datum r)
     else slavePort (port r) and unbuiltWord (b .slave) slaveIw3 (a0 (port r)) (datum r))
     else eqb (op r) 2 and dmaPort (port r) and leb 12 (port r % 16) and ltb (port r % 16) 15
 

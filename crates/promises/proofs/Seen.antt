@@ -8,7 +8,7 @@ use lib.ListN.{set}
 use Rattle.dma.specs.declared.Dma.{Dma}
 use Rattle.dma.specs.Fields.{chan, served}
 use Rattle.dma.specs.Cycle.{movedOf, memoryOf}
-use Rattle.promises.specs.Words.{reportsUnit, channelIn, addressIn, dataIn}
+use Rattle.promises.specs.Words.{reportsUnit, channelIn, addressIn, dataIn, upperIn}
 use Rattle.promises.proofs.Sound.{Sound}
 
 -- Whom a chip may serve after a record that moves no unit: the channel that it served, or an unmasked one.
@@ -28,7 +28,7 @@ pub data Seen (d : Dma) (m : List ℕ) (e : Dma) (l a : List ℕ) : Type 0 where
       → d .serving ≡ true
       → (last ≡ false → served d .current .count ≢ 0)
       → e .channels ≡ set (d .channels) (d .channel) (movedOf (served d) last)
-      → l ≡ memoryOf (served d) m (dataIn a)
+      → l ≡ memoryOf (served d) m (dataIn a) (upperIn a)
       → reportsUnit a ≡ true
       → channelIn a ≡ d .channel
       → addressIn a ≡ served d .current .address

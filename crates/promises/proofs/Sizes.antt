@@ -1,7 +1,7 @@
 -- Every number of a reached board is as wide as its type.
 use mathlib.Core.Path.{_≡_, refl, sym, _∙_, subst}
 use mathlib.Core.List.{List, [], _∷_, _++_}
-use mathlib.Core.Bool.{Bool, true, false}
+use mathlib.Core.Bool.{Bool, true, false, not}
 use Prim.Native.Nat.{ℕ, zero, suc, _+_, _-_, _*_, _/_, _%_, _<_}
 use native.Mathlib.Omega.{arith}
 use lib.Dec.{eqb, ltb, leb}
@@ -296,13 +296,13 @@ module _ (d : Dma) (s : SmallDma d) where
   dma-write : (r x : ℕ) → x < 256 → D (Registers.writeOf d r x)
   unfolding Registers.writeOf Registers.initializedOf Registers.selectedOf Registers.loadedOf Registers.controlledOf Registers.modedOf Registers.maskedBy Registers.resetOf
   dma-write r x h =
-      either D (eqb n 0) (λ _. either D (bitOf x 1) (λ _. s) (λ _. either D (bitOf x 0) (λ _. reset-small) (λ _. s)))
+      either D (eqb n 0) (λ _. either D (bitOf x 0) (λ _. reset-small) (λ _. either D (not (bitOf x 1) and Registers.anyWords d) (λ _. s) (λ _. s)))
       (λ _. either D (eqb n 1) (λ _. s)
       (λ _. either D (leb n 6) (λ _. either SmallDma (d .base) (λ _. choose _ (s (d .selected))) (λ _. choose _ (s (d .selected))))
       (λ _. either D (eqb n 7) (λ _. s)
       (λ _. either D (eqb n 8) (λ _. either D (eqb (maskedOf x 20) 0) (λ _. s) (λ _. s))
       (λ _. either D (eqb n 9) (λ _. either D (eqb x 0) (λ _. s) (λ _. s))
-      (λ _. either D (eqb n 10) (λ _. either D (Registers.unbuiltMode x) (λ _. s) (λ _. choose _ h))
+      (λ _. either D (eqb n 10) (λ _. either D (Registers.refusesMode d x) (λ _. s) (λ _. choose _ h))
       (λ _. either D (eqb n 11) (λ _. s)
       (λ _. either D (ltb n 15) (λ _. s) (λ _. four-small _ _ _ _ (s 0) (s 1) (s 2) (s 3))))))))))
     where
@@ -329,9 +329,9 @@ module _ (d : Dma) (s : SmallDma d) where
       n : ℕ
       n = r % 16
 
-  dma-cycle : (e : Bool) (x : ℕ) (m : List ℕ) → O (DmaCycle.cycleOf d e x m)
+  dma-cycle : (e : Bool) (x y : ℕ) (m : List ℕ) → O (DmaCycle.cycleOf d e x y m)
   unfolding DmaCycle.cycleOf DmaCycle.nothingOf DmaCycle.grantedOf DmaCycle.releasedOf DmaCycle.unitOf
-  dma-cycle e x m =
+  dma-cycle e x y m =
       either O (d .serving)
       (λ _. either O (DmaCycle.releases d) (λ _. s)
       (λ _. put SmallChannel none (d .channels) (d .channel) _ (rw (moved-mode (chan d (d .channel)) last) (s (d .channel))) s))
@@ -459,8 +459,8 @@ module _ (b : Board) (s : Sized b) where
         (λ _. let k = advanced (joined b) (b .timer) (b .icu) (pulseCount r) (joined-small (b .intp) (b .slave) (b .slaveintp) (s .intp)) (s .timer) (s .icu) in
         record { icu = k .1; intp = s .intp; slave = s .slave; slaveintp = s .slaveintp; timer = k .0; dma = s .dma })
     execute x (cycle o) =
-        either B (blocked b (Cycle (eqb (byte r 1) 1) (byte r 2))) (λ _. s)
-        (λ _. with-dma _ (dma-cycle (b .dma) (s .dma) (eqb (byte r 1) 1) (byte r 2) m))
+        either B (blocked b (Cycle (eqb (byte r 1) 1) (byte r 2) (byte r 3))) (λ _. s)
+        (λ _. with-dma _ (dma-cycle (b .dma) (s .dma) (eqb (byte r 1) 1) (byte r 2) (byte r 3) m))
 
     pub step-sized : Sized (stepOf b r m .board)
     unfolding stepOf answeredOf

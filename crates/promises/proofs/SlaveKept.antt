@@ -37,7 +37,7 @@ Grouped r (Asked (Requests l)) = Unit
 Grouped r (Asked (SlaveIntp l)) = eqb (byte r 1) 3 ≡ true
 Grouped r (Asked Acknowledge) = Unit
 Grouped r (Asked (Advance n)) = Unit
-Grouped r (Asked (Cycle e x)) = Unit
+Grouped r (Asked (Cycle e x y)) = Unit
 
 module _ (r : List ℕ) where
   asked : (q : Bool) (o : Operation) → Grouped r (Asked o) → Grouped r (askedIf q o)
@@ -61,7 +61,7 @@ module _ (r : List ℕ) where
       (λ _. either (Grouped r) (eqb (byte r 0) 3) (λ _. either (Grouped r) (unused r 3 5) (λ _. lines-grouped) (λ _. tt))
       (λ _. either (Grouped r) (eqb (byte r 0) 4) (λ _. asked (unused r 1 7) Acknowledge tt)
       (λ _. either (Grouped r) (eqb (byte r 0) 5) (λ _. asked (unused r 1 3 and leb (pulseCount r) 65535) (Advance (pulseCount r)) tt)
-      (λ _. either (Grouped r) (eqb (byte r 0) 6) (λ _. asked (unused r 3 5 and leb (byte r 1) 1) (Cycle (eqb (byte r 1) 1) (byte r 2)) tt)
+      (λ _. either (Grouped r) (eqb (byte r 0) 6) (λ _. asked (unused r 4 4 and leb (byte r 1) 1) (Cycle (eqb (byte r 1) 1) (byte r 2) (byte r 3)) tt)
       (λ _. tt)))))))
 
 module _ (b : Board) (r m : List ℕ) (names : namesSlave r ≡ false) (no-reset : byte r 0 ≢ 0) (no-acknowledge : byte r 0 ≢ 4) where
@@ -110,7 +110,7 @@ module _ (b : Board) (r m : List ℕ) (names : namesSlave r ≡ false) (no-reset
   leaves d (slave-intp o) g = absurd (true≢false (sym g ∙ other-group o))
   leaves d (acknowledge o) g = absurd (no-acknowledge (eqb-true (byte r 0) 4 o))
   leaves d (advance o l) g = either Leaves (blocked b (Advance (pulseCount r))) (λ _. left) (λ _. left)
-  leaves d (cycle o) g = either Leaves (blocked b (Cycle (eqb p 1) x)) (λ _. left) (λ _. left)
+  leaves d (cycle o) g = either Leaves (blocked b (Cycle (eqb p 1) x (byte r 3))) (λ _. left) (λ _. left)
 
 -- The statement.
 pub slave-kept : (b : Board) (r m : List ℕ) → namesSlave r ≡ false → getD r 0 0 ≢ 0 → getD r 0 0 ≢ 4

@@ -1,22 +1,22 @@
 -- What holds of every DMA chip in its ranges, and stays so.
 use mathlib.Core.Path.{_≡_, refl, _∙_}
 use mathlib.Core.List.{List, [], _∷_}
-use mathlib.Core.Bool.{Bool, true, false, true≢false}
+use mathlib.Core.Bool.{Bool, true, false, not, true≢false}
 use Prim.Native.Nat.{ℕ, zero, suc, _+_, _/_, _<_, _%_}
 use native.Mathlib.Omega.{arith}
 use lib.Dec.{eqb, ltb, leb}
 use lib.ListN.{getD, length, length-set}
 use borrow.Author.Tests.{eqb-false}
-use Rattle.bits.specs.Choice.{if_then_else_, _and_}
+use Rattle.bits.specs.Choice.{if_then_else_, _and_, _or_}
 use Rattle.bits.specs.Bits.{bitOf, withOf, maskedOf}
 use Rattle.dma.specs.declared.Span.{Span}
 use Rattle.dma.specs.declared.Channel.{Channel}
 use Rattle.dma.specs.declared.Dma.{Dma}
 use Rattle.dma.specs.declared.Written.{Written}
 use Rattle.dma.specs.declared.Got.{Got}
-use Rattle.dma.specs.Fields.{none, chan, selected, served, masked-is, requests-are}
-use Rattle.dma.specs.Registers.{unset, chosen, resetOf, requestedOf, unbuiltMode, replacedOf, initializedOf, selectedOf, loadedOf, controlledOf, modedOf, maskedBy, writeOf, readOf}
-use Rattle.dma.specs.Cycle.{down, auto, stepped, movedBy, movedOf, ready, channelAt, winnerFrom, winner, firstAfter, lastOf, stopsOf, releases, nothingOf, grantedOf, releasedOf, unitOf, cycleBy, cycleOf}
+use Rattle.dma.specs.Fields.{none, chan, selected, served, masked-is, wide-is, requests-are}
+use Rattle.dma.specs.Registers.{unset, chosen, resetOf, requestedOf, anyWords, unbuiltMode, refusesMode, replacedOf, initializedOf, selectedOf, loadedOf, controlledOf, modedOf, maskedBy, writeOf, readOf}
+use Rattle.dma.specs.Cycle.{down, auto, width, stepped, movedBy, movedOf, ready, channelAt, winnerFrom, winner, firstAfter, lastOf, stopsOf, releases, nothingOf, grantedOf, releasedOf, unitOf, cycleBy, cycleOf}
 use Rattle.tape.proofs.Decodes.{either}
 use Rattle.promises.proofs.Lists.{put}
 
@@ -42,9 +42,9 @@ below true a b k x y = x
 below false a b k x y = y
 
 -- A channel that moves on.
-step-small : (a : ℕ) (falls : Bool) → stepped a falls < 16777216
-step-small a true = omega arith
-step-small a false = omega arith
+step-small : (a : ℕ) (falls : Bool) (w : ℕ) → stepped a falls w < 16777216
+step-small a true w = omega arith
+step-small a false w = omega arith
 
 pub moved-good : (c : Channel) (last : Bool) → Good c → Good (movedOf c last)
 unfolding movedOf
@@ -52,8 +52,8 @@ moved-good c last g = at last (auto c)
   where
     at : (l a : Bool) → Good (movedBy c l a)
     at true true = record { address = g .home; home = g .home; count = g .size; size = g .size; built = g .built }
-    at true false = record { address = step-small _ (down c); home = g .home; count = omega arith; size = g .size; built = g .built }
-    at false a = record { address = step-small _ (down c); home = g .home; count = omega arith; size = g .size; built = g .built }
+    at true false = record { address = step-small _ (down c) (width c); home = g .home; count = omega arith; size = g .size; built = g .built }
+    at false a = record { address = step-small _ (down c) (width c); home = g .home; count = omega arith; size = g .size; built = g .built }
 
 -- An end bit more.
 with-small : (x n : ℕ) → x < 16 → n < 4 → withOf x n < 16
@@ -109,11 +109,11 @@ replaced-small r x p h l =
 
 -- Reset, and what stands where there is no channel.
 pub none-good : Good none
-unfolding unbuiltMode
+unfolding unbuiltMode bitOf
 none-good = record { address = omega arith; home = omega arith; count = omega arith; size = omega arith; built = refl }
 
 unset-good : Good unset
-unfolding unbuiltMode
+unfolding unbuiltMode bitOf
 unset-good = record { address = omega arith; home = omega arith; count = omega arith; size = omega arith; built = refl }
 
 pub reset-sound : Sound resetOf
@@ -133,9 +133,9 @@ module _ (d : Dma) (s : Sound d) where
   first-small n = below (d .rotate) _ _ 4 (omega arith) (s .first)
 
   -- A bus cycle.
-  pub cycle-sound : (e : Bool) (x : ℕ) (m : List ℕ) → Sound (cycleOf d e x m .dma)
+  pub cycle-sound : (e : Bool) (x y : ℕ) (m : List ℕ) → Sound (cycleOf d e x y m .dma)
   unfolding cycleOf nothingOf grantedOf releasedOf unitOf
-  cycle-sound e x m = at (d .serving) (releases d) (d .disabled) (eqb (winner d) 4) refl
+  cycle-sound e x y m = at (d .serving) (releases d) (d .disabled) (eqb (winner d) 4) refl
     where
       last : Bool
       last = lastOf (served d) e
@@ -143,7 +143,7 @@ module _ (d : Dma) (s : Sound d) where
       halt : Bool
       halt = stopsOf (served d) last
 
-      at : (v r k w : Bool) → eqb (winner d) 4 ≡ w → Sound (cycleBy d e x m v r k w .dma)
+      at : (v r k w : Bool) → eqb (winner d) 4 ≡ w → Sound (cycleBy d e x y m v r k w .dma)
       at true true k w q =
           record { four = s .four; selected = s .selected; first = first-small (d .channel); channel = omega arith; requests = s .requests; ends = s .ends; good = s .good }
       at true false k w q =
@@ -230,16 +230,18 @@ module _ (d : Dma) (s : Sound d) where
   abbrev W : Written → Type 0
   W w = Sound (w .dma)
 
-  reset-by-write : Sound (requests-are (d .requests) resetOf)
+  reset-by-write : (k : Bool) → Sound (wide-is k (requests-are (d .requests) resetOf))
   unfolding resetOf
-  reset-by-write =
+  reset-by-write k =
       record { four = refl; selected = omega arith; first = omega arith; channel = omega arith; requests = s .requests; ends = omega arith; good = reset-sound .good }
 
   pub write-sound : (r x : ℕ) → Sound (writeOf d r x .dma)
-  unfolding writeOf initializedOf selectedOf controlledOf modedOf
+  unfolding writeOf initializedOf selectedOf controlledOf modedOf refusesMode
   write-sound r x =
       either W (eqb n 0)
-      (λ _. either W (bitOf x 1) (λ _. s) (λ _. either W (bitOf x 0) (λ _. reset-by-write) (λ _. s)))
+      (λ _. either W (bitOf x 0) (λ _. reset-by-write (bitOf x 1))
+      (λ _. either W (not (bitOf x 1) and anyWords d) (λ _. s)
+      (λ _. record { four = s .four; selected = s .selected; first = s .first; channel = s .channel; requests = s .requests; ends = s .ends; good = s .good })))
       (λ _. either W (eqb n 1)
       (λ _. record { four = s .four; selected = omega arith; first = s .first; channel = s .channel; requests = s .requests; ends = s .ends; good = s .good })
       (λ _. either W (leb n 6) (λ _. load-sound n x)
@@ -258,10 +260,14 @@ module _ (d : Dma) (s : Sound d) where
       (λ _. s))
       (λ _. either W (eqb n 9) (λ _. either W (eqb x 0) (λ _. s) (λ _. s))
       (λ _. either W (eqb n 10)
-      (λ _. either W (unbuiltMode x) (λ _. s)
-      (λ u. let g = s .good (d .selected) in choose _ (record { address = g .address; home = g .home; count = g .count; size = g .size; built = u })))
+      (λ _. either W (refusesMode d x) (λ _. s)
+      (λ u. let g = s .good (d .selected) in choose _ (record { address = g .address; home = g .home; count = g .count; size = g .size; built = left (unbuiltMode x) _ u })))
       (λ _. either W (eqb n 11) (λ _. s)
       (λ _. either W (ltb n 15) (λ _. s) (λ _. masks-sound x)))))))))
     where
       n : ℕ
       n = r % 16
+
+      left : (p q : Bool) → (p or q) ≡ false → p ≡ false
+      left true q h = absurd (true≢false h)
+      left false q h = refl

@@ -36,7 +36,7 @@ use Rattle.dma.specs.declared.Written.{Written as DmaWritten}
 use Rattle.dma.specs.declared.Got.{Got as DmaGot}
 use Rattle.dma.specs.Fields.{requests-are}
 use Rattle.dma.specs.Registers as DmaRegisters
-use Rattle.dma.specs.Registers.{unbuiltMode}
+use Rattle.dma.specs.Registers.{anyWords, refusesMode}
 use Rattle.board.specs.declared.Board.{Board}
 use Rattle.board.specs.Operations.{Outcome, a0, icuTold, icuWritten, icuShown, done, telling, refused, timerWritten, timerShown, dmaWritten, dmaShown, slaveWritten, slaveShown, slaveGives, acknowledgeOf, writeOf, readOf, cycleOf}
 use Rattle.board.specs.Wiring.{lines}
@@ -301,14 +301,13 @@ timer-read t a h = rw h (read-status (at t (a % 4)))
 module _ (d : Dma) (n : ℕ) where
   module _ (x : ℕ) (h : eqb n 7 ≡ false) (k : eqb n 11 ≡ false) where
     abbrev W : DmaWritten → Type 0
-    W w = w .status ≡ (if unbuiltRegister n x then 4 else 0)
+    W w = w .status ≡ (if unbuiltRegister d n x then 4 else 0)
 
-    as-0 : (u v : Bool)
-        → (if u then DmaRegisters.refused 4 d else if v then DmaRegisters.taken (requests-are (d .requests) DmaRegisters.resetOf) else DmaRegisters.taken d) .status
-        ≡ (if u then 4 else 0)
-    as-0 true v = refl
-    as-0 false true = refl
-    as-0 false false = refl
+    as-0 : (u v : Bool) (e f : Dma)
+        → (if u then DmaRegisters.taken e else if v then DmaRegisters.refused 4 d else DmaRegisters.taken f) .status ≡ (if not u and v then 4 else 0)
+    as-0 true v e f = refl
+    as-0 false true e f = refl
+    as-0 false false e f = refl
 
     as-8 : (u : Bool) (e : Dma) → (if u then DmaRegisters.taken e else DmaRegisters.refused 4 d) .status ≡ (if not u then 4 else 0)
     as-8 true e = refl
@@ -318,10 +317,10 @@ module _ (d : Dma) (n : ℕ) where
     as-10 true e = refl
     as-10 false e = refl
 
-    dma-write : DmaRegisters.writeAt d n x .status ≡ (if unbuiltRegister n x then 4 else 0)
+    dma-write : DmaRegisters.writeAt d n x .status ≡ (if unbuiltRegister d n x then 4 else 0)
     unfolding DmaRegisters.initializedOf DmaRegisters.selectedOf DmaRegisters.controlledOf DmaRegisters.modedOf
     dma-write =
-        either W (eqb n 0) (λ q. rw (eqb-true n 0 q) (as-0 (bitOf x 1) (bitOf x 0)))
+        either W (eqb n 0) (λ q. rw (eqb-true n 0 q) (as-0 (bitOf x 0) (not (bitOf x 1) and anyWords d) _ _))
         (λ e0. either W (eqb n 1) (λ q. rw (eqb-true n 1 q) refl)
         (λ _. either W (leb n 6)
         (λ q. let l = leb-true n 6 q in
@@ -329,7 +328,7 @@ module _ (d : Dma) (n : ℕ) where
         (λ e6. either W (eqb n 7) (λ q. absurd (true≢false (sym q ∙ h)))
         (λ e7. either W (eqb n 8) (λ q. rw (eqb-true n 8 q) (as-8 (eqb (maskedOf x 20) 0) _))
         (λ e8. either W (eqb n 9) (λ q. rw (eqb-true n 9 q) (as-8 (eqb x 0) d))
-        (λ e9. either W (eqb n 10) (λ q. rw (eqb-true n 10 q) (as-10 (unbuiltMode x) _))
+        (λ e9. either W (eqb n 10) (λ q. rw (eqb-true n 10 q) (as-10 (refusesMode d x) _))
         (λ e10. either W (eqb n 11) (λ q. absurd (true≢false (sym q ∙ k)))
         (λ e11.
         let l : 12 ≤ n = omega (arith, leb-false n 6 e6, eqb-false n 7 e7, eqb-false n 8 e8, eqb-false n 9 e9, eqb-false n 10 e10, eqb-false n 11 e11) in
@@ -356,7 +355,7 @@ module _ (d : Dma) (n : ℕ) where
         either R (ltb n 15) (λ q. rw (le-leb 12 n l, q) refl) (λ q. rw (le-leb 12 n l, q) refl)))))))))
 
 dma-writes : (d : Dma) (p x : ℕ) → eqb (p % 16) 7 ≡ false → eqb (p % 16) 11 ≡ false
-    → DmaRegisters.writeOf d p x .status ≡ (if unbuiltRegister (p % 16) x then 4 else 0)
+    → DmaRegisters.writeOf d p x .status ≡ (if unbuiltRegister d (p % 16) x then 4 else 0)
 unfolding DmaRegisters.writeOf
 dma-writes d p x h k = dma-write d (p % 16) x h k
 
@@ -437,7 +436,7 @@ module _ (b : Board) (p : ℕ) where
     unbuiltWrite =
         if icuPort p then unbuiltWord (b .icu) masterIw3 (a0 p) x
         else if timerPort p then eqb (p % 4) 3 and unbuiltControl x
-        else if dmaPort p then unbuiltRegister (p % 16) x
+        else if dmaPort p then unbuiltRegister (b .dma) (p % 16) x
         else slavePort p and unbuiltWord (b .slave) slaveIw3 (a0 p) x
 
     board-write : writable p ≡ true
@@ -552,7 +551,7 @@ formed-asked r =
     (asked-with (unused r 3 5) (linesAsked (byte r 1) (byte r 2)) (levelsFit (byte r 1) (byte r 2)) (lines-formed (byte r 1) (byte r 2)))
     (or-else (eqb (byte r 0) 4) _ _ _ _ (asked-if (unused r 1 7) Acknowledge)
     (or-else (eqb (byte r 0) 5) _ _ _ _ (asked-if (unused r 1 3 and leb (pulseCount r) 65535) (Advance (pulseCount r)))
-    (or-else (eqb (byte r 0) 6) _ _ _ _ (asked-if (unused r 3 5 and leb (byte r 1) 1) (Cycle (eqb (byte r 1) 1) (byte r 2)))
+    (or-else (eqb (byte r 0) 6) _ _ _ _ (asked-if (unused r 4 4 and leb (byte r 1) 1) (Cycle (eqb (byte r 1) 1) (byte r 2) (byte r 3)))
     refl))))))
 
 -- A record that needs the bus while a channel is served is refused with 1.
@@ -584,7 +583,7 @@ module _ (b : Board) (r m : List ℕ) where
       rw (← f, eqb-true (byte r 0) 5 o) (gated b (blocked b (Advance (pulseCount r))) (executeOf b (Advance (pulseCount r)) m) 0 refl)
   by x (cycle o) f =
       rw (← f, eqb-true (byte r 0) 6 o)
-      (gated b (blocked b (Cycle (eqb (byte r 1) 1) (byte r 2))) (executeOf b (Cycle (eqb (byte r 1) 1) (byte r 2)) m) 0 refl)
+      (gated b (blocked b (Cycle (eqb (byte r 1) 1) (byte r 2) (byte r 3))) (executeOf b (Cycle (eqb (byte r 1) 1) (byte r 2) (byte r 3)) m) 0 refl)
 
   pub status-ruled : getD (stepOf b r m .answer) 0 0 ≡ due b r
   unfolding stepOf answeredOf answerOf

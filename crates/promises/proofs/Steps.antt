@@ -20,10 +20,10 @@ use Rattle.cascade.specs.Cascade.{slaveIw3, answered, passedOn}
 use Rattle.timer.specs.Timer.{writesOf, readsOf}
 use Rattle.dma.specs.declared.Dma.{Dma}
 use Rattle.dma.specs.declared.Got.{Got}
-use Rattle.dma.specs.Fields.{chan, served}
+use Rattle.dma.specs.Fields.{chan, served, word}
 use Rattle.dma.specs.Registers as DmaRegisters
 use Rattle.dma.specs.Report.{Told}
-use Rattle.dma.specs.Cycle.{writes, pokeOf, single, ready, channelAt, winnerFrom, winner, lastOf, releases, nothingOf, grantedOf, releasedOf, unitOf, cycleBy}
+use Rattle.dma.specs.Cycle.{writes, reads, sizeOf, startOf, peekOf, pokeOf, byteOf, single, ready, channelAt, winnerFrom, winner, lastOf, releases, nothingOf, grantedOf, releasedOf, unitOf, cycleBy}
 use Rattle.dma.specs.Cycle as DmaCycle
 use Rattle.board.specs.declared.Board.{Board}
 use Rattle.board.specs.Operations.{Outcome, refused, icuTold, icuWritten, a0, payloadOf, timerWritten, timerShown, dmaWritten, dmaShown, slaveWritten, slaveShown, slaveGives, acknowledgeOf, writeOf, readOf, cycleOf, cycleMemory}
@@ -63,17 +63,32 @@ joined a h = omega arith
 abbrev pub cycleAnswer : ℕ → Told → List ℕ
 cycleAnswer l t = answerOf 0 6 (t .byte) l (twelve (payloadOf t))
 
-seen-cycle : (d : Dma) (m : List ℕ) (e : Bool) (x l : ℕ) → Sound d
-    → Seen d m (DmaCycle.cycleOf d e x m .dma) (DmaCycle.cycleOf d e x m .memory) (cycleAnswer l (DmaCycle.cycleOf d e x m .report))
+seen-cycle : (d : Dma) (m : List ℕ) (e : Bool) (x y l : ℕ) → Sound d
+    → Seen d m (DmaCycle.cycleOf d e x y m .dma) (DmaCycle.cycleOf d e x y m .memory) (cycleAnswer l (DmaCycle.cycleOf d e x y m .report))
 unfolding DmaCycle.cycleOf nothingOf grantedOf releasedOf unitOf answerOf
-seen-cycle d m e x l s = at (d .serving) (releases d) (d .disabled) (eqb (winner d) 4) refl refl
+seen-cycle d m e x y l s = at (d .serving) (releases d) (d .disabled) (eqb (winner d) 4) refl refl
   where
     p : ℕ
     p = served d .current .address
 
-    data-of : (w : Bool) (y : ℕ) → (if w then pokeOf m p x else m) ≡ (if w then pokeOf m p (if w then x else y) else m)
-    data-of true y = refl
-    data-of false y = refl
+    stored : Bool → Bool → ℕ → ℕ → List ℕ
+    stored k v b u =
+        if ltb 1 (sizeOf k) and v then
+        pokeOf (if ltb 0 (sizeOf k) and v then pokeOf m (startOf (sizeOf k) p + 0) b else m) (startOf (sizeOf k) p + 1) u
+        else if ltb 0 (sizeOf k) and v then pokeOf m (startOf (sizeOf k) p + 0) b
+        else m
+
+    -- what a unit leaves in memory is what its answer tells
+    told-bytes : DmaCycle.memoryOf (served d) m x y ≡ DmaCycle.memoryOf (served d) m (byteOf (served d) m 0 x) (byteOf (served d) m 1 y)
+    told-bytes = by (word (served d)) (writes (served d))
+      where
+        by : (k v : Bool)
+            → stored k v x y
+            ≡ stored k v (if ltb 0 (sizeOf k) then (if v then x else if reads (served d) then peekOf m (startOf (sizeOf k) p + 0) else 0) else 0) (if ltb 1 (sizeOf k) then (if v then y else if reads (served d) then peekOf m (startOf (sizeOf k) p + 1) else 0) else 0)
+        by true true = refl
+        by true false = refl
+        by false true = refl
+        by false false = refl
 
     more-of : (z k : Bool) → eqb (served d .current .count) 0 ≡ z → (z or k) ≡ false → served d .current .count ≢ 0
     more-of true k q h = absurd (true≢false h)
@@ -85,10 +100,10 @@ seen-cycle d m e x l s = at (d .serving) (releases d) (d .disabled) (eqb (winner
     on-of false false h = (refl, refl)
 
     at : (v r k w : Bool) → d .serving ≡ v → eqb (winner d) 4 ≡ w
-        → Seen d m (cycleBy d e x m v r k w .dma) (cycleBy d e x m v r k w .memory) (cycleAnswer l (cycleBy d e x m v r k w .report))
+        → Seen d m (cycleBy d e x y m v r k w .dma) (cycleBy d e x y m v r k w .memory) (cycleAnswer l (cycleBy d e x y m v r k w .report))
     at true true k w v q = still refl refl refl (λ h. absurd (false≢true h))
     at true false k w v q =
-        unit (lastOf (served d) e) v (more-of (eqb (served d .current .count) 0) e refl) refl (data-of (writes (served d)) _) refl refl
+        unit (lastOf (served d) e) v (more-of (eqb (served d .current .count) 0) e refl) refl told-bytes refl refl
         (joined p (s .good (d .channel) .address))
         (on-of (lastOf (served d) e) (single (served d)))
     at false r true w v q = same refl refl refl refl refl
@@ -218,8 +233,8 @@ module _ (b : Board) (r m : List ℕ) where
   by x s (acknowledge o) = held Acknowledge (plain 4 (acknowledgeOf b) o refl acknowledges)
   by x s (advance o l) = held (Advance (pulseCount r)) (plain 5 (executeOf b (Advance (pulseCount r)) m) o refl (as-it-was refl refl refl))
   by x s (cycle o) =
-      held (Cycle (eqb (byte r 1) 1) (byte r 2))
-      (λ c. rw (eqb-true (byte r 0) 6 o) (seen-cycle (b .dma) m (eqb (byte r 1) 1) (byte r 2) _ s))
+      held (Cycle (eqb (byte r 1) 1) (byte r 2) (byte r 3))
+      (λ c. rw (eqb-true (byte r 0) 6 o) (seen-cycle (b .dma) m (eqb (byte r 1) 1) (byte r 2) (byte r 3) _ s))
 
   pub seen-step : Sound (b .dma) → disturbs r (stepOf b r m .answer) ≡ false → Seen (b .dma) m (stepOf b r m .board .dma) (stepMemory b r m) (stepOf b r m .answer)
   unfolding stepOf stepMemory answeredOf
@@ -253,7 +268,7 @@ module _ (b : Board) (r m : List ℕ) where
   execute-sound Acknowledge s =
       either Kept (passedOn (b .icu) (lines b) (b .slave)) (λ _. s) (λ _. either Kept (answered (b .icu) (b .slave)) (λ _. s) (λ _. s))
   execute-sound (Advance n) s = s
-  execute-sound (Cycle e x) s = cycle-sound (b .dma) s e x m
+  execute-sound (Cycle e x y) s = cycle-sound (b .dma) s e x y m
 
   outcome-sound : (x : Decoded) → Sound (b .dma) → Kept (outcomeOf b x m)
   unfolding outcomeOf

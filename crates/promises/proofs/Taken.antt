@@ -260,11 +260,11 @@ abbrev told-of : Board → DmaCycle.Out → Outcome
 told-of b o = record { status = 0; board = dma-is (o .dma) b; byte = o .report .byte; payload = twelve (payloadOf (o .report)) }
 
 -- A DMA cycle, with either END, is carried out, whoever has the bus.
-carried : (b : Board) (m : List ℕ) (e x : ℕ) → e < 2
-    → (stepOf b (cyclingWith e x) m ≡ answeredOf 6 (cycleOf b (eqb e 1) x m))
-    × (stepMemory b (cyclingWith e x) m ≡ DmaCycle.cycleOf (b .dma) (eqb e 1) x m .memory)
+carried : (b : Board) (m : List ℕ) (e x y : ℕ) → e < 2
+    → (stepOf b (cyclingWith e x y) m ≡ answeredOf 6 (cycleOf b (eqb e 1) x y m))
+    × (stepMemory b (cyclingWith e x y) m ≡ DmaCycle.cycleOf (b .dma) (eqb e 1) x y m .memory)
 unfolding stepOf stepMemory decodeOf unused outcomeOf memoryOf executeOf memoryAfter blocked cycleMemory
-carried b m e x h = by e h
+carried b m e x y h = by e h
   where
     as-outcome : (o : Outcome) (q : Bool) → (if q and false then refused 1 b else o) ≡ o
     as-outcome o true = refl
@@ -275,10 +275,10 @@ carried b m e x h = by e h
     as-memory l false = refl
 
     by : (e : ℕ) → e < 2
-        → (stepOf b (cyclingWith e x) m ≡ answeredOf 6 (cycleOf b (eqb e 1) x m))
-        × (stepMemory b (cyclingWith e x) m ≡ DmaCycle.cycleOf (b .dma) (eqb e 1) x m .memory)
-    by zero h = (ap (answeredOf 6) (as-outcome (cycleOf b false x m) (b .dma .serving)), as-memory _ (b .dma .serving))
-    by (suc zero) h = (ap (answeredOf 6) (as-outcome (cycleOf b true x m) (b .dma .serving)), as-memory _ (b .dma .serving))
+        → (stepOf b (cyclingWith e x y) m ≡ answeredOf 6 (cycleOf b (eqb e 1) x y m))
+        × (stepMemory b (cyclingWith e x y) m ≡ DmaCycle.cycleOf (b .dma) (eqb e 1) x y m .memory)
+    by zero h = (ap (answeredOf 6) (as-outcome (cycleOf b false x y m) (b .dma .serving)), as-memory _ (b .dma .serving))
+    by (suc zero) h = (ap (answeredOf 6) (as-outcome (cycleOf b true x y m) (b .dma .serving)), as-memory _ (b .dma .serving))
     by (suc (suc e)) h = absurd (omega arith)
 
 -- The first rank whose channel is ready is the winner's.
@@ -367,24 +367,24 @@ foremost d low k l a = (
             ne (sym (rank-of f j small h) ∙ ap (λ (z : ℕ). (f + (0 + z)) % 4) e)
 
 -- A grant, and nothing.
-module _ (d : Dma) (e : Bool) (x : ℕ) (m : List ℕ) (idle : d .serving ≡ false) where
-  granted : (n : ℕ) → d .disabled ≡ false → n < 4 → winner d ≡ n → DmaCycle.cycleOf d e x m ≡ grantedOf d n m
+module _ (d : Dma) (e : Bool) (x y : ℕ) (m : List ℕ) (idle : d .serving ≡ false) where
+  granted : (n : ℕ) → d .disabled ≡ false → n < 4 → winner d ≡ n → DmaCycle.cycleOf d e x y m ≡ grantedOf d n m
   unfolding DmaCycle.cycleOf
   granted n en l w =
       go (d .serving) (DmaCycle.releases d) (d .disabled) (eqb (winner d) 4) idle en (ap (λ (i : ℕ). eqb i 4) w ∙ ne-eqb n 4 (omega arith))
       ∙ ap (λ (i : ℕ). grantedOf d i m) w
     where
-      go : (v r k u : Bool) → v ≡ false → k ≡ false → u ≡ false → DmaCycle.cycleBy d e x m v r k u ≡ grantedOf d (winner d) m
+      go : (v r k u : Bool) → v ≡ false → k ≡ false → u ≡ false → DmaCycle.cycleBy d e x y m v r k u ≡ grantedOf d (winner d) m
       go true r k u a b c = absurd (true≢false a)
       go false r true u a b c = absurd (true≢false b)
       go false r false true a b c = absurd (true≢false c)
       go false r false false a b c = refl
 
-  nothing : (d .disabled or eqb (winner d) 4) ≡ true → DmaCycle.cycleOf d e x m ≡ nothingOf d m
+  nothing : (d .disabled or eqb (winner d) 4) ≡ true → DmaCycle.cycleOf d e x y m ≡ nothingOf d m
   unfolding DmaCycle.cycleOf
   nothing h = go (d .serving) (DmaCycle.releases d) (d .disabled) (eqb (winner d) 4) idle h
     where
-      go : (v r k u : Bool) → v ≡ false → (k or u) ≡ true → DmaCycle.cycleBy d e x m v r k u ≡ nothingOf d m
+      go : (v r k u : Bool) → v ≡ false → (k or u) ≡ true → DmaCycle.cycleBy d e x y m v r k u ≡ nothingOf d m
       go true r k u a b = absurd (true≢false a)
       go false r true u a b = refl
       go false r false true a b = refl
@@ -395,15 +395,15 @@ unfolding winnerFrom channelAt
 no-winner d k zero h = refl
 no-winner d k (suc left) h = rw (ready-asks d (channelAt d k) ∙ h (channelAt d k) (omega arith)) (no-winner d (suc k) left h)
 
-pub channel-granted : {b : Board} → Reached b → (e x : ℕ) (m : List ℕ) → e < 2 → b .dma .serving ≡ false → b .dma .disabled ≡ false
+pub channel-granted : {b : Board} → Reached b → (e x y : ℕ) (m : List ℕ) → e < 2 → b .dma .serving ≡ false → b .dma .disabled ≡ false
     → (k : ℕ) → k < 4 → asks (b .dma) k ≡ true
-    → (n : ℕ) × Foremost (b .dma) n × Grants b e x m n
+    → (n : ℕ) × Foremost (b .dma) n × Grants b e x y m n
 unfolding grantedOf cycleOf answeredOf answerOf
-channel-granted {b} r e x m h sv en k l a =
+channel-granted {b} r e x y m h sv en k l a =
     let q = foremost (b .dma) (reached-sound r .first) k l a in
     let n = q .0 in
-    let c = granted (b .dma) (eqb e 1) x m sv n en (q .1 .channel) (q .2) in
-    let s = carried b m e x h in
+    let c = granted (b .dma) (eqb e 1) x y m sv n en (q .1 .channel) (q .2) in
+    let s = carried b m e x y h in
     let t = s .0 ∙ ap (λ (o : DmaCycle.Out). answeredOf 6 (told-of b o)) c in (
       n,
       q .1,
@@ -419,16 +419,16 @@ channel-granted {b} r e x m h sv en k l a =
       },
     )
 
-pub nothing-granted : (b : Board) (e x : ℕ) (m : List ℕ) → e < 2 → b .dma .serving ≡ false
+pub nothing-granted : (b : Board) (e x y : ℕ) (m : List ℕ) → e < 2 → b .dma .serving ≡ false
     → (b .dma .disabled ≡ true) ⊎ ((k : ℕ) → k < 4 → asks (b .dma) k ≡ false)
-    → (stepOf b (cyclingWith e x) m .board ≡ b)
-    × (stepMemory b (cyclingWith e x) m ≡ m)
-    × (getD (stepOf b (cyclingWith e x) m .answer) 0 0 ≡ 0)
-    × (getD (stepOf b (cyclingWith e x) m .answer) 4 0 ≡ 0)
+    → (stepOf b (cyclingWith e x y) m .board ≡ b)
+    × (stepMemory b (cyclingWith e x y) m ≡ m)
+    × (getD (stepOf b (cyclingWith e x y) m .answer) 0 0 ≡ 0)
+    × (getD (stepOf b (cyclingWith e x y) m .answer) 4 0 ≡ 0)
 unfolding nothingOf cycleOf answeredOf answerOf
-nothing-granted b e x m h sv why =
-    let c = nothing (b .dma) (eqb e 1) x m sv (because why) in
-    let s = carried b m e x h in
+nothing-granted b e x y m h sv why =
+    let c = nothing (b .dma) (eqb e 1) x y m sv (because why) in
+    let s = carried b m e x y h in
     let t = s .0 ∙ ap (λ (o : DmaCycle.Out). answeredOf 6 (told-of b o)) c in (
       ap (λ (o : Stepped). o .board) t,
       s .1 ∙ ap (λ (o : DmaCycle.Out). o .memory) c,

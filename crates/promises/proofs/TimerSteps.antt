@@ -78,7 +78,7 @@ module _ (b : Board) (r m : List ℕ) where
       (λ _. either Does (passedOn (b .icu) (lines b) (b .slave)) (λ _. stays)
       (λ _. either Does (answered (b .icu) (b .slave)) (λ _. stays) (λ _. stays)))
   does x (advance o l) = either Does (blocked b (Advance (pulseCount r))) (λ _. stays) (λ _. pulses (eqb-true (byte r 0) 5 o))
-  does x (cycle o) = either Does (blocked b (Cycle (eqb (byte r 1) 1) (byte r 2))) (λ _. stays) (λ _. stays)
+  does x (cycle o) = either Does (blocked b (Cycle (eqb (byte r 1) 1) (byte r 2) (byte r 3))) (λ _. stays) (λ _. stays)
 
   pub timed : Timed b r (getD (stepOf b r m .answer) 0 0) (stepOf b r m .board .timer)
   unfolding stepOf answeredOf answerOf

@@ -60,18 +60,18 @@ record Granted (d : Dma) (k q n : ℕ) : Type 0 where
   alone : Alone d k
 
 -- In single mode a grant, which moves nothing, and then a unit, with which service stops.
-module _ (d : Dma) (k q x : ℕ) (m : List ℕ) (one : eqb (q / 64) 1 ≡ true) where
-  granted : (n : ℕ) → Waits d k q n → DmaCycle.cycleOf d false x m ≡ grantedOf d k m
+module _ (d : Dma) (k q x y : ℕ) (m : List ℕ) (one : eqb (q / 64) 1 ≡ true) where
+  granted : (n : ℕ) → Waits d k q n → DmaCycle.cycleOf d false x y m ≡ grantedOf d k m
   unfolding DmaCycle.cycleOf
   granted n w =
       let e = alone-wins d k (w .left .few) (w .alone) in
       rw (e, w .idle, w .enabled, ne-eqb k 4 (omega (arith, w .left .few)))
 
-  grant-reports : (n : ℕ) → Waits d k q n → (l : ℕ) → Words.unitOf k (cycleAnswer l (DmaCycle.cycleOf d false x m .report)) ≡ false
+  grant-reports : (n : ℕ) → Waits d k q n → (l : ℕ) → Words.unitOf k (cycleAnswer l (DmaCycle.cycleOf d false x y m .report)) ≡ false
   unfolding grantedOf answerOf
   grant-reports n w l = rw (granted n w)
 
-  grant-serves : (n : ℕ) → Waits d k q n → Granted (DmaCycle.cycleOf d false x m .dma) k q n
+  grant-serves : (n : ℕ) → Waits d k q n → Granted (DmaCycle.cycleOf d false x y m .dma) k q n
   unfolding grantedOf ready
   grant-serves n w =
       rw (granted n w)
@@ -87,9 +87,9 @@ module _ (d : Dma) (k q x : ℕ) (m : List ℕ) (one : eqb (q / 64) 1 ≡ true) 
         alone = w .alone;
       })
 
-  unit-of : (n : ℕ) (last : Bool) → Granted d k q n → eqb n 0 ≡ last → DmaCycle.cycleOf d false x m ≡ unitBy d last true x m
-  unit-of n true g e = by-unit d k q n x m (g .serves) true e
-  unit-of n false g e = by-unit d k q n x m (g .serves) false e ∙ ap (λ (stop : Bool). unitBy d false stop x m) one
+  unit-of : (n : ℕ) (last : Bool) → Granted d k q n → eqb n 0 ≡ last → DmaCycle.cycleOf d false x y m ≡ unitBy d last true x y m
+  unit-of n true g e = by-unit d k q n x y m (g .serves) true e
+  unit-of n false g e = by-unit d k q n x y m (g .serves) false e ∙ ap (λ (stop : Bool). unitBy d false stop x y m) one
 
   mask-stays : (i : ℕ) → getD (set (d .channels) (d .channel) (movedOf (served d) false)) i none .masked ≡ chan d i .masked
   unfolding movedOf
@@ -98,12 +98,12 @@ module _ (d : Dma) (k q x : ℕ) (m : List ℕ) (one : eqb (q / 64) 1 ≡ true) 
       (ap (λ (j : ℕ). chan d j .masked))
       refl
 
-  unit-waits : (n : ℕ) → Granted d k q (suc n) → Waits (DmaCycle.cycleOf d false x m .dma) k q n
+  unit-waits : (n : ℕ) → Granted d k q (suc n) → Waits (DmaCycle.cycleOf d false x y m .dma) k q n
   unfolding ready movedOf
   unit-waits n g =
       rw (unit-of (suc n) false g (ne-eqb (suc n) 0 (omega arith)))
       (record {
-        left = left-after d k q n x m (g .serves) true;
+        left = left-after d k q n x y m (g .serves) true;
         idle = refl;
         enabled = g .enabled;
         alone = λ i l. ap (λ (u : Bool). if u then false else bitOf (d .requests) i) (mask-stays i) ∙ g .alone i l;
@@ -118,11 +118,14 @@ module _ (b : Board) (m s : List ℕ) (k q N : ℕ) (one : eqb (q / 64) 1 ≡ tr
   abbrev given : ℕ → ℕ
   given i = byte (recordAt s i) 2
 
+  abbrev upper : ℕ → ℕ
+  upper i = byte (recordAt s i) 3
+
   grants : (i j : ℕ) → i + j ≡ N → Waits (here (2 * i) .board .dma) k q j → Granted (after b m s (suc (2 * i)) .board .dma) k q j
   unfolding after
   grants i j e h =
       rw (cycle-dma (here (2 * i) .board) (recordAt s (2 * i)) (here (2 * i) .memory) (c (2 * i) (omega arith)))
-      (grant-serves (here (2 * i) .board .dma) k q (given (2 * i)) (here (2 * i) .memory) one j h)
+      (grant-serves (here (2 * i) .board .dma) k q (given (2 * i)) (upper (2 * i)) (here (2 * i) .memory) one j h)
 
   twice : (i : ℕ) → 2 * suc i ≡ suc (suc (2 * i))
   twice i = omega arith
@@ -133,7 +136,7 @@ module _ (b : Board) (m s : List ℕ) (k q N : ℕ) (one : eqb (q / 64) 1 ≡ tr
   waiting (suc i) j e =
       let p = suc (2 * i) in
       rw (twice i, cycle-dma (here p .board) (recordAt s p) (here p .memory) (c p (omega arith)))
-      (unit-waits (here p .board .dma) k q (given p) (here p .memory) one j (grants i (suc j) (omega arith) (waiting i (suc j) (omega arith))))
+      (unit-waits (here p .board .dma) k q (given p) (upper p) (here p .memory) one j (grants i (suc j) (omega arith) (waiting i (suc j) (omega arith))))
 
   -- The first i pairs moved i units.
   pub singly : (i : ℕ) → i ≤ N + 1 → length (unitsOf k (answersIn (after b m s (2 * i) .answers) (2 * i))) ≡ i
@@ -146,22 +149,22 @@ module _ (b : Board) (m s : List ℕ) (k q N : ℕ) (one : eqb (q / 64) 1 ≡ tr
       let v = waiting i j (omega arith) in
       let u0 : Words.unitOf k (stepOf (here o .board) (recordAt s o) (here o .memory) .answer) ≡ false =
       rw (cycle-answer (here o .board) (recordAt s o) (here o .memory) (c o (omega arith)))
-      (grant-reports (here o .board .dma) k q (given o) (here o .memory) one j v _) in
+      (grant-reports (here o .board .dma) k q (given o) (upper o) (here o .memory) one j v _) in
       let u1 : Words.unitOf k (stepOf (here p .board) (recordAt s p) (here p .memory) .answer) ≡ true =
       rw (cycle-answer (here p .board) (recordAt s p) (here p .memory) (c p (omega arith)))
-      (reports (here p .board .dma) k q j (given p) (here p .memory) (grants i j (omega arith) v .serves) _) in
+      (reports (here p .board .dma) k q j (given p) (upper p) (here p .memory) (grants i j (omega arith) v .serves) _) in
       rw (twice i) (run-more b m s k p ∙ rw u1 (ap suc (run-more b m s k o ∙ rw u0 (singly i (omega arith)))))
 
   -- The chip after a pair.
   paired : (i j : ℕ) → i + j ≡ N
-      → after b m s (2 * suc i) .board .dma ≡ unitBy (here (suc (2 * i)) .board .dma) (eqb j 0) true (given (suc (2 * i))) (here (suc (2 * i)) .memory) .dma
+      → after b m s (2 * suc i) .board .dma ≡ unitBy (here (suc (2 * i)) .board .dma) (eqb j 0) true (given (suc (2 * i))) (upper (suc (2 * i))) (here (suc (2 * i)) .memory) .dma
   unfolding after
   paired i j e =
       let p = suc (2 * i) in
       rw (twice i)
       (cycle-dma (here p .board) (recordAt s p) (here p .memory) (c p (omega arith))
       ∙ ap (λ (o : DmaCycle.Out). o .dma)
-      (unit-of (here p .board .dma) k q (given p) (here p .memory) one j (eqb j 0) (grants i j e (waiting i j e)) refl))
+      (unit-of (here p .board .dma) k q (given p) (upper p) (here p .memory) one j (eqb j 0) (grants i j e (waiting i j e)) refl))
 
   pub freed : (i : ℕ) → i ≤ N + 1 → after b m s (2 * i) .board .dma .serving ≡ false
   unfolding after
@@ -174,4 +177,4 @@ module _ (b : Board) (m s : List ℕ) (k q N : ℕ) (one : eqb (q / 64) 1 ≡ tr
       let e : 2 * (N + 1) ≡ 2 * suc N = omega arith in
       rw e
       (ap (λ (d : Dma). chan d k .masked) (paired N 0 (omega arith))
-      ∙ shut-after (here p .board .dma) k q 0 (given p) (here p .memory) (grants N 0 (omega arith) (waiting N 0 (omega arith)) .serves) h true)
+      ∙ shut-after (here p .board .dma) k q 0 (given p) (upper p) (here p .memory) (grants N 0 (omega arith) (waiting N 0 (omega arith)) .serves) h true)

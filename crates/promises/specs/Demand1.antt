@@ -57,7 +57,8 @@ pub record OfRecord (b : Board) (r m : List ℕ) : Type 0 where
   -- Not so: a board that takes IW2 before IW1; one that reads a counter with no mode as 0; one on which an extended master answers for a slave that is not ready.
   pub row-3 : (statusOf b r m ≡ 3) ↔ ((formed r and not (held b r) and outOfTurn b r) ≡ true)
   -- 4: not built.
-  -- Not so: a board that takes a BCD word and counts in binary; one that refuses a latch for its mode bits; one that takes a slave's IW3 that names another line.
+  -- Not so: a board that takes a BCD word and counts in binary; one that refuses a latch for its mode bits; one that takes a slave's IW3 that names another line; one that takes
+  -- a word mode on the 8-bit bus, or an 8-bit bus under a word mode; one that refuses a reset by register 0 then.
   pub row-4 : (statusOf b r m ≡ 4) ↔ ((formed r and not (held b r) and not (outOfTurn b r) and notBuilt b r) ≡ true)
   -- 6: count 1 completed in mode 2 or 3.
   -- Not so: a board that refuses count 1 in mode 0, 1, 4 or 5; one that refuses the low byte 1 of a count of two bytes.

@@ -14,7 +14,7 @@ use Rattle.board.specs.declared.Board.{Board}
 use Rattle.board.specs.Records.{after}
 use Rattle.intake.specs.Ranges.{inRange}
 use Rattle.intake.specs.Feed.{bytesOf, fedOf, fedMemory, fedAnswers}
-use Rattle.promises.specs.Words.{answersIn, unitsOf, lastAt, placeOf, writes, auto, down, mayWrite, Calm, CalmFrom, Further}
+use Rattle.promises.specs.Words.{answersIn, unitsOf, lastAt, placeOf, writes, auto, down, width, mayWrite, Calm, CalmFrom, Further}
 use Rattle.promises.specs.Reached.{Reached, Typed}
 
 -- What is promised of a run: from the DMA chip d and the memory m, with some answers, to the memory m′.
@@ -22,23 +22,23 @@ pub record Bounded (d : Dma) (m : List ℕ) (answers : List (List ℕ)) (m′ : 
   -- Each channel k without autoinitialize moves at most its current count plus one units.
   -- Not so: a board that goes on after the end; one that serves a channel again though the end of its count has masked it.
   pub few : (k : ℕ) → auto (chan d k) ≡ false → length (unitsOf k answers) ≤ chan d k .current .count + 1
-  -- The first of them is at its current address, each further one a place on in its direction, modulo 16,777,216. (Unit i here is
-  -- the demand's unit number i + 1.)
-  -- Not so: a board whose address wraps at 65,536; one that always counts upwards.
+  -- The first of them is at its current address, each further one a unit's width on in its direction, one place for bytes and two for words, modulo
+  -- 16,777,216. (Unit i here is the demand's unit number i + 1.)
+  -- Not so: a board whose address wraps at 65,536; one that always counts upwards; one whose words step by one.
   pub places : (k : ℕ)
       → auto (chan d k) ≡ false
       → (i : ℕ)
       → i < length (unitsOf k answers)
-      → getD (unitsOf k answers) i 0 ≡ placeOf (chan d k .current .address) (down (chan d k)) i
+      → getD (unitsOf k answers) i 0 ≡ placeOf (chan d k .current .address) (down (chan d k)) (width (chan d k)) i
   -- A memory byte stays unless some channel may write it: one that is set to write memory, and has the byte in its current range
-  -- (current count plus one bytes) or, where it autoinitializes, in its base range.
-  -- Not so: a board that clears memory at an end; one that writes on memory-to-device transfers too.
+  -- (current count plus one units: bytes, or even pairs of bytes) or, where it autoinitializes, in its base range.
+  -- Not so: a board that clears memory at an end; one that writes on memory-to-device transfers too; one that puts a word at an odd address into the bytes there and above.
   pub others : (p : ℕ) → ((k : ℕ) → k < 4 → mayWrite p (chan d k) ≡ false) → getD m′ p 0 ≡ getD m p 0
-  -- Any byte ends as the data of the last answer that reports a unit there by a channel set to write memory, or as it was if
-  -- none does.
+  -- Any byte ends as the data of the last answer that reports a unit there by a channel set to write memory, the odd byte of a word as that answer's byte 13; or as it
+  -- was if none does.
   -- Not so: a board that moves a unit and answers "nothing"; one that reports a unit that it does not
-  -- write, or other data than it writes.
-  pub ends : (p : ℕ) → p < length m → getD m′ p 0 ≡ lastAt (λ k. writes (chan d k)) p answers (getD m p 0)
+  -- write, or other data than it writes; one that swaps the bytes of a word.
+  pub ends : (p : ℕ) → p < length m → getD m′ p 0 ≡ lastAt (λ k. writes (chan d k)) (λ k. width (chan d k)) p answers (getD m p 0)
   -- The memory is as long as before.
   pub long : length m′ ≡ length m
 

@@ -3,7 +3,7 @@
 use mathlib.Core.Path.{_≡_}
 use mathlib.Core.List.{List, [], _∷_, _++_}
 use mathlib.Core.Bool.{Bool, true, false, not}
-use Prim.Native.Nat.{ℕ, suc, _+_, _*_, _/_, _≤_, _<_}
+use Prim.Native.Nat.{ℕ, suc, _+_, _*_, _/_, _%_, _≤_, _<_}
 use mathlib.Core.Logic.{_↔_, _⊎_}
 use lib.Dec.{eqb}
 use lib.ListN.{getD, replicate}
@@ -16,15 +16,21 @@ use Rattle.icu.specs.Service.{servedOf}
 use Rattle.board.specs.declared.Board.{Board}
 use Rattle.board.specs.Wiring.{freshOf, icu-is, int, levelsOf}
 use Rattle.board.specs.Step.{stepOf, stepMemory}
-use Rattle.promises.specs.Records.{resetting, acknowledging, cyclingWith}
-use Rattle.promises.specs.Words.{unitAt, lastAt, dataIn, placeOf, inside, before, Highest, askedFor, asks, Foremost}
+use Rattle.dma.specs.Fields.{wide-is, requests-are}
+use Rattle.promises.specs.Records.{writing, resetting, acknowledging, cyclingWith}
+use Rattle.promises.specs.Words.{channelIn, startOf, movedAt, unitAt, lastAt, placeOf, inside, before, Highest, askedFor, asks, Foremost}
 use Rattle.promises.specs.Reached.{Reached}
 use Rattle.promises.specs.Table.{extended, unanswered}
 
--- No answer reports a unit at p by a channel of w.
-pub data None (w : ℕ → Bool) (p : ℕ) : List (List ℕ) → Type 0 where
-  empty : None w p []
-  misses : {a : List ℕ} {more : List (List ℕ)} → unitAt w p a ≡ false → None w p more → None w p (a ∷ more)
+-- The widths that a unit may have.
+pub data Width : ℕ → Type 0 where
+  byte : Width 1
+  word : Width 2
+
+-- No answer reports a unit at p by a channel of s, whose widths are w.
+pub data None (s : ℕ → Bool) (w : ℕ → ℕ) (p : ℕ) : List (List ℕ) → Type 0 where
+  empty : None s w p []
+  misses : {a : List ℕ} {more : List (List ℕ)} → unitAt s w p a ≡ false → None s w p more → None s w p (a ∷ more)
 
 -- An acknowledge is answered as level n of the chip c: status 0, operation 4, and the levels after it. In vector mode the data is IW2's upper five bits and n, and the payload zero; in CALL mode the
 -- data is zero, and the payload CDH (205), the low address byte, of A7-A5 and 4 n with AG4=1 (D2 of IW1) or A7-A6 and 8 n with AG4=0, IW2, and zeros.
@@ -49,16 +55,16 @@ pub record Takes (b : Board) (m : List ℕ) (n : ℕ) : Type 0 where
       → bitOf (stepOf b acknowledging m .board .icu .isr) k ≡ (bitOf (b .icu .isr) k or (not (b .icu .sfi) and eqb k n))
   pub lowest : stepOf b acknowledging m .board .icu .lowest ≡ (if b .icu .sfi and b .icu .rotation then n else b .icu .lowest)
 
--- A DMA cycle with END e and the byte x grants the bus to channel n; nothing moves, and END is no end.
-pub record Grants (b : Board) (e x : ℕ) (m : List ℕ) (n : ℕ) : Type 0 where
-  pub kind : getD (stepOf b (cyclingWith e x) m .answer) 4 0 ≡ 1
-  pub channel : getD (stepOf b (cyclingWith e x) m .answer) 5 0 ≡ n
-  pub serving : stepOf b (cyclingWith e x) m .board .dma .serving ≡ true
-  pub served : stepOf b (cyclingWith e x) m .board .dma .channel ≡ n
-  pub channels : stepOf b (cyclingWith e x) m .board .dma .channels ≡ b .dma .channels
-  pub ends : stepOf b (cyclingWith e x) m .board .dma .ends ≡ b .dma .ends
-  pub end : getD (stepOf b (cyclingWith e x) m .answer) 6 0 ≡ 0
-  pub memory : stepMemory b (cyclingWith e x) m ≡ m
+-- A DMA cycle with END e and the bytes x and y grants the bus to channel n; nothing moves, and END is no end.
+pub record Grants (b : Board) (e x y : ℕ) (m : List ℕ) (n : ℕ) : Type 0 where
+  pub kind : getD (stepOf b (cyclingWith e x y) m .answer) 4 0 ≡ 1
+  pub channel : getD (stepOf b (cyclingWith e x y) m .answer) 5 0 ≡ n
+  pub serving : stepOf b (cyclingWith e x y) m .board .dma .serving ≡ true
+  pub served : stepOf b (cyclingWith e x y) m .board .dma .channel ≡ n
+  pub channels : stepOf b (cyclingWith e x y) m .board .dma .channels ≡ b .dma .channels
+  pub ends : stepOf b (cyclingWith e x y) m .board .dma .ends ≡ b .dma .ends
+  pub end : getD (stepOf b (cyclingWith e x y) m .answer) 6 0 ≡ 0
+  pub memory : stepMemory b (cyclingWith e x y) m ≡ m
 
 -- Some level of those wanted comes before every level that the chip c has in service.
 pub record Outranking (wanted : ℕ → Bool) (c : Icu) : Type 0 where
@@ -68,26 +74,33 @@ pub record Outranking (wanted : ℕ → Bool) (c : Icu) : Type 0 where
   pub over : (k : ℕ) → k < 8 → bitOf (c .isr) k ≡ true → before (c .lowest) level < before (c .lowest) k
 
 pub record Meant : Type 0 where
-  -- The place 0 places on is the address itself, and each further place is the one to which the chip steps from the place before.
-  pub place-zero : (a : ℕ) (falls : Bool) → a < 16777216 → placeOf a falls 0 ≡ a
-  pub place-suc : (a i : ℕ) (falls : Bool) → a < 16777216 → i < 65536 → placeOf a falls (suc i) ≡ stepped (placeOf a falls i) falls
-  -- No two of 65,536 places in a row are the same. The range of a span is the places 0 to count on, which are count plus one, and no other byte.
-  pub places-differ : (a i j : ℕ) (falls : Bool) → i < 65536 → j < 65536 → placeOf a falls i ≡ placeOf a falls j → i ≡ j
-  pub range-has : (s : Span) (falls : Bool) → s .address < 16777216 → s .count < 65536
+  -- In units of w bytes, which are bytes or words: the address 0 units on is the address itself, and each further one is that to which the chip steps from the one before.
+  pub place-zero : {w : ℕ} → Width w → (a : ℕ) (falls : Bool) → a < 16777216 → placeOf a falls w 0 ≡ a
+  pub place-suc : {w : ℕ} → Width w → (a i : ℕ) (falls : Bool) → a < 16777216 → i < 65536
+      → placeOf a falls w (suc i) ≡ stepped (placeOf a falls w i) falls w
+  -- No two of 65,536 units in a row have a byte in common. The range of a span is the bytes of the units 0 to count on, which are count plus one, and no other byte.
+  pub units-differ : {w : ℕ} → Width w → (a i j : ℕ) (falls : Bool) → i < 65536 → j < 65536
+      → startOf w (placeOf a falls w i) ≡ startOf w (placeOf a falls w j)
+      → i ≡ j
+  pub range-has : {w : ℕ} → Width w → (s : Span) (falls : Bool) → s .address < 16777216 → s .count < 65536
       → (i : ℕ)
       → i ≤ s .count
-      → inside (placeOf (s .address) falls i) s falls ≡ true
-  pub range-only : (s : Span) (falls : Bool) → s .address < 16777216
       → (p : ℕ)
-      → inside p s falls ≡ true
-      → (i : ℕ) × (i ≤ s .count) × (placeOf (s .address) falls i ≡ p)
-  -- The last answer that reports a unit at p by a channel of w: if none does, the byte is as it was; if one does and none after it, the
-  -- byte is that one's data.
-  pub last-none : {w : ℕ → Bool} {p : ℕ} {got : List (List ℕ)} → None w p got → (x : ℕ) → lastAt w p got x ≡ x
-  pub last-found : (w : ℕ → Bool) (p x : ℕ) (earlier : List (List ℕ)) (a : List ℕ) (later : List (List ℕ))
-      → unitAt w p a ≡ true
-      → None w p later
-      → lastAt w p (earlier ++ a ∷ later) x ≡ dataIn a
+      → startOf w (placeOf (s .address) falls w i) ≡ startOf w p
+      → inside p s falls w ≡ true
+  pub range-only : {w : ℕ} → Width w → (s : Span) (falls : Bool) → s .address < 16777216
+      → (p : ℕ)
+      → inside p s falls w ≡ true
+      → (i : ℕ) × (i ≤ s .count) × (startOf w (placeOf (s .address) falls w i) ≡ startOf w p)
+  -- A word is an even place and the next one.
+  pub word-pair : (p : ℕ) → p % 2 ≡ 0 → (startOf 2 p ≡ p) × (startOf 2 (suc p) ≡ p)
+  -- The last answer that reports a unit at p by a channel of s: if none does, the byte is as it was; if one does and none after it, the
+  -- byte is what that one moved there.
+  pub last-none : {s : ℕ → Bool} {w : ℕ → ℕ} {p : ℕ} {got : List (List ℕ)} → None s w p got → (x : ℕ) → lastAt s w p got x ≡ x
+  pub last-found : (s : ℕ → Bool) (w : ℕ → ℕ) (p x : ℕ) (earlier : List (List ℕ)) (a : List ℕ) (later : List (List ℕ))
+      → unitAt s w p a ≡ true
+      → None s w p later
+      → lastAt s w p (earlier ++ a ∷ later) x ≡ movedAt (w (channelIn a)) p a
   -- INT is high exactly if the chip is ready and some level asked for outranks every level in service.
   -- Not so: a board on which a level outranks itself; one on which a masked level in service does not block those below it.
   pub int-rule : {b : Board} → Reached b → (int b ≡ true) ↔ ((b .icu .stage ≡ 3) × Outranking (askedFor b) (b .icu))
@@ -104,17 +117,25 @@ pub record Meant : Type 0 where
   -- With the bus free, the chip enabled and some channel asking, a cycle grants the bus to the channel that asks and that no other one asking
   -- outranks, whatever END and the device have.
   -- Not so: a board that with END grants channel 0, whichever asks; one that goes on from the last served with fixed rank.
-  pub channel-granted : {b : Board} → Reached b → (e x : ℕ) (m : List ℕ) → e < 2 → b .dma .serving ≡ false → b .dma .disabled ≡ false
+  pub channel-granted : {b : Board} → Reached b → (e x y : ℕ) (m : List ℕ) → e < 2 → b .dma .serving ≡ false → b .dma .disabled ≡ false
       → (k : ℕ) → k < 4 → asks (b .dma) k ≡ true
-      → (n : ℕ) × Foremost (b .dma) n × Grants b e x m n
+      → (n : ℕ) × Foremost (b .dma) n × Grants b e x y m n
   -- With the bus free, and the chip disabled or no channel asking, a cycle does nothing, and says so.
   -- Not so: a board that grants a masked channel; one that grants while it is disabled.
-  pub nothing-granted : (b : Board) (e x : ℕ) (m : List ℕ) → e < 2 → b .dma .serving ≡ false
+  pub nothing-granted : (b : Board) (e x y : ℕ) (m : List ℕ) → e < 2 → b .dma .serving ≡ false
       → (b .dma .disabled ≡ true) ⊎ ((k : ℕ) → k < 4 → asks (b .dma) k ≡ false)
-      → (stepOf b (cyclingWith e x) m .board ≡ b)
-      × (stepMemory b (cyclingWith e x) m ≡ m)
-      × (getD (stepOf b (cyclingWith e x) m .answer) 0 0 ≡ 0)
-      × (getD (stepOf b (cyclingWith e x) m .answer) 4 0 ≡ 0)
+      → (stepOf b (cyclingWith e x y) m .board ≡ b)
+      × (stepMemory b (cyclingWith e x y) m ≡ m)
+      × (getD (stepOf b (cyclingWith e x y) m .answer) 0 0 ≡ 0)
+      × (getD (stepOf b (cyclingWith e x y) m .answer) 4 0 ≡ 0)
+  -- Register 0 (20H) with the bus free. With D0 the DMA chip is as op 0 leaves it, but for its request lines, and has the bus of D1. Without D0 it has the bus of D1, and nothing else of it changes; but it can't have 8 bits
+  -- while some channel moves words (`Demand1.row-4`). A board that was never fed has 8 bits.
+  -- Not so: a board that is wide from reset; one on which 03H resets and leaves the bus narrow; one on which 02H resets the chip.
+  pub bus-reset : (b : Board) (m : List ℕ) (x : ℕ) → b .dma .serving ≡ false → x % 2 ≡ 1
+      → stepOf b (writing 32 x) m .board .dma ≡ wide-is (bitOf x 1) (requests-are (b .dma .requests) (freshOf .dma))
+  pub bus-set : (b : Board) (m : List ℕ) (x : ℕ) → b .dma .serving ≡ false → x % 2 ≡ 0 → getD (stepOf b (writing 32 x) m .answer) 0 0 ≡ 0
+      → stepOf b (writing 32 x) m .board .dma ≡ wide-is (bitOf x 1) (b .dma)
+  pub fresh-narrow : freshOf .dma .wide ≡ false
   -- Operation 0 leaves a board as one that was never fed has it, but for the bytes that are kept, and leaves the memory.
   -- Not so: a board that keeps a mode or a mask; one that clears memory.
   pub reset-is-fresh : (b : Board) (m : List ℕ)

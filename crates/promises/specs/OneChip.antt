@@ -1,4 +1,4 @@
--- The board with one interrupt chip, as it is without a slave: document 01's, as requests 1 to 3 left it (six modes of the timer, requests that go away, no status 5).
+-- The board with one interrupt chip, as it is without a slave: document 01's with requests 1 to 3, 6 and 7 (six modes of the timer, requests that go away, no status 5, bytes that fell off, words), and without 4.
 -- It has the same timer, DMA chip and interrupt chip, by the same rules, but for the words that set the interrupt chip up, which are written out here; ports 30H-31H and group 3 are not there, and an
 -- IW1 with D1=0 is not built. The statements of Cascade.antt hold the board with two chips against it.
 use Prim.Native.Nat.{ℕ, zero, suc, _/_}
@@ -145,12 +145,12 @@ executeOne o (Advance n) m =
       byte = 0;
       payload = twelve (risesPayload (advancedOf (o .intp) (o .timer) (o .icu) n .rises));
     }
-executeOne o (Cycle end x) m =
+executeOne o (Cycle end x y) m =
     record {
       status = 0;
-      one = dmaOne (DmaCycle.cycleOf (o .dma) end x m .dma) o;
-      byte = DmaCycle.cycleOf (o .dma) end x m .report .byte;
-      payload = twelve (payloadOf (DmaCycle.cycleOf (o .dma) end x m .report));
+      one = dmaOne (DmaCycle.cycleOf (o .dma) end x y m .dma) o;
+      byte = DmaCycle.cycleOf (o .dma) end x y m .report .byte;
+      payload = twelve (payloadOf (DmaCycle.cycleOf (o .dma) end x y m .report));
     }
 
 -- 2 by the record's bytes alone, then 1, then what the operation itself refuses.
@@ -164,7 +164,7 @@ outcomeOne o (Asked x) m = if o .dma .serving and usesBus x then didNot 1 o else
 -- Of the operations a DMA cycle alone touches the memory.
 unfoldable pub memoryOne : One → Decoded → List ℕ → List ℕ
 memoryOne o Malformed m = m
-memoryOne o (Asked (Cycle end x)) m = DmaCycle.cycleOf (o .dma) end x m .memory
+memoryOne o (Asked (Cycle end x y)) m = DmaCycle.cycleOf (o .dma) end x y m .memory
 memoryOne o (Asked Reset) m = m
 memoryOne o (Asked (Write p x)) m = m
 memoryOne o (Asked (Read p)) m = m

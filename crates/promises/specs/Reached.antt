@@ -1,9 +1,10 @@
 -- The boards reached from reset: each field in its range, zeros past the kept bytes, and the end of any record inside a call.
 use mathlib.Core.Path.{_≡_}
-use mathlib.Core.Bool.{true}
+use mathlib.Core.Bool.{true, false}
 use mathlib.Core.List.{List}
 use Prim.Native.Nat.{ℕ, _-_, _*_, _≤_, _<_}
 use lib.ListN.{getD, take, length}
+use Rattle.bits.specs.Bits.{bitOf}
 use Rattle.icu.specs.declared.Icu.{Icu}
 use Rattle.timer.specs.Timer.{at}
 use Rattle.dma.specs.Fields.{chan}
@@ -64,6 +65,9 @@ pub record ReachedBoards : Type 0 where
   -- No number is wider than its type, either.
   -- Not so: a board that loses a channel when it writes it back; one whose count goes past FFFFH.
   pub typed : {b : Board} → Reached b → Typed b
+  -- While the bus has 8 bits, no channel is set to move words.
+  -- Not so: a board that takes a word mode on that bus; one on which the bus can be made narrow while a word mode stands.
+  pub narrow : {b : Board} → Reached b → b .dma .wide ≡ false → (k : ℕ) → bitOf (chan (b .dma) k .mode) 0 ≡ false
   -- Past the bytes of a cut record there are zeros.
   -- Not so: a board that keeps the last seven bytes of the tape, and says how many of them count.
   pub zeros-after : {b : Board} → Reached b → (i : ℕ) → b .kept .length ≤ i → getD (b .kept .bytes) i 0 ≡ 0

@@ -23,12 +23,12 @@ advancing n = 5 ∷ 0 ∷ 0 ∷ 0 ∷ n % 256 ∷ n / 256 % 256 ∷ n / 65536 % 
 abbrev pub pulsing : List ℕ
 pulsing = advancing 1
 
--- A DMA cycle with END e, for which the device has the byte x; and one with END 0.
-abbrev pub cyclingWith : ℕ → ℕ → List ℕ
-cyclingWith e x = 6 ∷ e ∷ x ∷ 0 ∷ 0 ∷ 0 ∷ 0 ∷ 0 ∷ []
+-- A DMA cycle with END e, for which the device has the byte x, and y as a word's upper one; and one with END 0 and the byte alone.
+abbrev pub cyclingWith : ℕ → ℕ → ℕ → List ℕ
+cyclingWith e x y = 6 ∷ e ∷ x ∷ y ∷ 0 ∷ 0 ∷ 0 ∷ 0 ∷ []
 
 abbrev pub cycling : ℕ → List ℕ
-cycling x = cyclingWith 0 x
+cycling x = cyclingWith 0 x 0
 
 abbrev pub resetting : List ℕ
 resetting = 0 ∷ 0 ∷ 0 ∷ 0 ∷ 0 ∷ 0 ∷ 0 ∷ 0 ∷ []

@@ -12,6 +12,8 @@ use Rattle.icu.specs.declared.Icu.{Icu}
 use Rattle.timer.specs.declared.Counter.{Counter}
 use Rattle.timer.specs.declared.Timer.{Timer}
 use Rattle.timer.specs.Timer.{at}
+use Rattle.dma.specs.declared.Dma.{Dma}
+use Rattle.dma.specs.Fields.{chan}
 use Rattle.board.specs.declared.Board.{Board}
 
 -- x is one of some numbers.
@@ -19,7 +21,7 @@ unfoldable pub among : ℕ → List ℕ → Bool
 among x [] = false
 among x (y ∷ rest) = eqb x y or among x rest
 
--- Byte 0 of a record is the operation. Byte 1 is a port or a group, or END; byte 2 is data or levels.
+-- Byte 0 of a record is the operation. Byte 1 is a port or a group, or END; byte 2 is data or levels. Byte 3 is a cycle's upper device byte, of any value.
 abbrev pub op : List ℕ → ℕ
 op r = getD r 0 0
 
@@ -72,7 +74,7 @@ formed r =
     else if eqb (op r) 3 then uses r (1 ∷ 2 ∷ []) and levelsFit (byte1 r) (byte2 r)
     else if eqb (op r) 4 then uses r []
     else if eqb (op r) 5 then uses r (4 ∷ 5 ∷ 6 ∷ 7 ∷ []) and leb (pulses r) 65535
-    else if eqb (op r) 6 then uses r (1 ∷ 2 ∷ []) and leb (byte1 r) 1
+    else if eqb (op r) 6 then uses r (1 ∷ 2 ∷ 3 ∷ []) and leb (byte1 r) 1
     else false
 
 -- Row 1: a write, a read or an acknowledge while DMA serves a channel.
@@ -142,14 +144,21 @@ otherWiring c w x = eqb (c .stage) 4 and not (eqb x w)
 abbrev pub unbuiltControl : ℕ → Bool
 unbuiltControl x = eqb (x / 64) 3 or (not (eqb (x / 16 % 4) 0) and eqb (x % 2) 1)
 
--- At 2AH: mode 11 in D7-D6, direction 11 in D3-D2, D1 or D0. At 28H: any bit but D4 and D2.
-abbrev pub unbuiltMode : ℕ → Bool
-unbuiltMode x = eqb (x / 64) 3 or eqb (x / 4 % 4) 3 or not (eqb (x % 4) 0)
+-- At 20H: D0=0 and D1=0, an 8-bit bus, while some channel's mode has D0, words.
+abbrev pub movesWords : Dma → ℕ → Bool
+movesWords d n = eqb (chan d n .mode % 2) 1
+
+abbrev pub narrowsUnderWords : Dma → ℕ → Bool
+narrowsUnderWords d x = eqb (x % 4) 0 and (movesWords d 0 or movesWords d 1 or movesWords d 2 or movesWords d 3)
+
+-- At 2AH: mode 11 in D7-D6, direction 11 in D3-D2, D1; D0, words, while the bus has 8 bits. At 28H: any bit but D4 and D2.
+abbrev pub refusedMode : Dma → ℕ → Bool
+refusedMode d x = eqb (x / 64) 3 or eqb (x / 4 % 4) 3 or eqb (x / 2 % 2) 1 or (eqb (x % 2) 1 and not (d .wide))
 
 abbrev pub unbuiltDeviceControl : ℕ → Bool
 unbuiltDeviceControl x = bitOf x 0 or bitOf x 1 or bitOf x 3 or bitOf x 5 or bitOf x 6 or bitOf x 7
 
--- 20H with D1=1; 29H not zero; any use of 2CH, 2DH and 2EH.
+-- 29H not zero; any use of 2CH, 2DH and 2EH.
 unfoldable pub notBuilt : Board → List ℕ → Bool
 notBuilt b r =
     if eqb (op r) 1 then
@@ -157,10 +166,10 @@ notBuilt b r =
     else if eqb (byte1 r) 1 then otherWiring (b .icu) 128 (byte2 r)
     else if eqb (byte1 r) 49 then otherWiring (b .slave) 7 (byte2 r)
     else if eqb (byte1 r) 19 then unbuiltControl (byte2 r)
-    else if eqb (byte1 r) 32 then bitOf (byte2 r) 1
+    else if eqb (byte1 r) 32 then narrowsUnderWords (b .dma) (byte2 r)
     else if eqb (byte1 r) 40 then unbuiltDeviceControl (byte2 r)
     else if eqb (byte1 r) 41 then not (eqb (byte2 r) 0)
-    else if eqb (byte1 r) 42 then unbuiltMode (byte2 r)
+    else if eqb (byte1 r) 42 then refusedMode (b .dma) (byte2 r)
     else among (byte1 r) (44 ∷ 45 ∷ 46 ∷ []))
     else eqb (op r) 2 and among (byte1 r) (44 ∷ 45 ∷ 46 ∷ [])
 

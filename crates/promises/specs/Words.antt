@@ -32,7 +32,8 @@ answersIn a (suc n) = answersIn a n ++ answerAt a n ∷ []
 abbrev pub reportsUnit : List ℕ → Bool
 reportsUnit a = eqb (getD a 0 0) 0 and eqb (getD a 1 0) 6 and eqb (getD a 4 0) 2
 
--- Whose unit it is, where in memory it is, the byte moved, and byte 12: 1 if the unit fell off the end of memory.
+-- Whose unit it is, the address that its channel had, the byte moved, a word's upper byte (byte 13), and byte 12: 1 if any of the unit fell off the end of
+-- memory.
 abbrev pub channelIn : List ℕ → ℕ
 channelIn a = getD a 5 0
 
@@ -41,6 +42,9 @@ addressIn a = getD a 8 0 + getD a 9 0 * 256 + getD a 10 0 * 65536 + getD a 11 0 
 
 abbrev pub dataIn : List ℕ → ℕ
 dataIn a = getD a 2 0
+
+abbrev pub upperIn : List ℕ → ℕ
+upperIn a = getD a 13 0
 
 abbrev pub fellOffIn : List ℕ → ℕ
 fellOffIn a = getD a 12 0
@@ -53,28 +57,39 @@ unfoldable pub unitsOf : ℕ → List (List ℕ) → List ℕ
 unitsOf k [] = []
 unitsOf k (a ∷ rest) = if unitOf k a then addressIn a ∷ unitsOf k rest else unitsOf k rest
 
--- An answer reports a unit at place p by a channel of the set w; the data of the last answer that does, or x if none does.
-abbrev pub unitAt : (ℕ → Bool) → ℕ → List ℕ → Bool
-unitAt w p a = reportsUnit a and w (channelIn a) and eqb (addressIn a) p
+-- Memory in units of w bytes, from 0 on: where the unit starts that has place p in it. So a word is an even pair, whichever of its two places is named.
+abbrev pub startOf : ℕ → ℕ → ℕ
+startOf w p = p / w * w
 
-unfoldable pub lastAt : (ℕ → Bool) → ℕ → List (List ℕ) → ℕ → ℕ
-lastAt w p [] x = x
-lastAt w p (a ∷ rest) x = lastAt w p rest (if unitAt w p a then dataIn a else x)
+-- What a unit of w bytes moved at place p: its data or, at the odd place of a word, its upper byte.
+abbrev pub movedAt : ℕ → ℕ → List ℕ → ℕ
+movedAt w p a = if eqb (p % w) 0 then dataIn a else upperIn a
 
--- The place i places on from a, downwards or upwards, modulo 2^24.
-abbrev pub placeOf : ℕ → Bool → ℕ → ℕ
-placeOf a falls i = if falls then (a + 16777216 - i) % 16777216 else (a + i) % 16777216
+-- The answer reports a unit that has place p in it, by a channel of the set s, where w k is the width of channel k; and what the last such answer moved at p,
+-- or x if there is none.
+abbrev pub unitAt : (ℕ → Bool) → (ℕ → ℕ) → ℕ → List ℕ → Bool
+unitAt s w p a =
+    reportsUnit a and s (channelIn a) and eqb (startOf (w (channelIn a)) (addressIn a)) (startOf (w (channelIn a)) p)
 
--- How many places p is on from a, in the direction. The range of a span: its address and as many places on as its count,
--- which are count plus one bytes. There is no place at or past 2^24.
+unfoldable pub lastAt : (ℕ → Bool) → (ℕ → ℕ) → ℕ → List (List ℕ) → ℕ → ℕ
+lastAt s w p [] x = x
+lastAt s w p (a ∷ rest) x = lastAt s w p rest (if unitAt s w p a then movedAt (w (channelIn a)) p a else x)
+
+-- The address i units of w bytes on from a, downwards or upwards, modulo 2^24.
+abbrev pub placeOf : ℕ → Bool → ℕ → ℕ → ℕ
+placeOf a falls w i = if falls then (a + 16777216 - w * i) % 16777216 else (a + w * i) % 16777216
+
+-- How many places p is on from a, in the direction. The range of a span in units of w bytes: the unit at its address and as many units on as its count,
+-- which are count plus one units: with words from the even address e and count N, upwards e to e + 2N + 1, downwards e - 2N to e + 1. There is no place at
+-- or past 2^24.
 abbrev pub distance : ℕ → ℕ → Bool → ℕ
 distance p a falls = if falls then (a + 16777216 - p) % 16777216 else (p + 16777216 - a) % 16777216
 
-unfoldable pub inside : ℕ → Span → Bool → Bool
-inside p s falls = ltb p 16777216 and leb (distance p (s .address) falls) (s .count)
+unfoldable pub inside : ℕ → Span → Bool → ℕ → Bool
+inside p s falls w = ltb p 16777216 and leb (distance (startOf w p) (startOf w (s .address)) falls) (w * s .count)
 
 -- A channel's mode byte: with D3-D2=01, device to memory, it is set to write memory, with 10, memory to device, to read it, and with 00 to verify;
--- D4 is autoinitialize; D5 has the address fall.
+-- D4 is autoinitialize; D5 has the address fall; with D0 its units are words, of two bytes, and else of one.
 abbrev pub writes : Channel → Bool
 writes c = eqb (c .mode / 4 % 4) 1
 
@@ -90,10 +105,13 @@ auto c = bitOf (c .mode) 4
 abbrev pub down : Channel → Bool
 down c = bitOf (c .mode) 5
 
+abbrev pub width : Channel → ℕ
+width c = if bitOf (c .mode) 0 then 2 else 1
+
 -- A channel may write the byte at p: it is set to write memory, and p lies in its current range or, where it
 -- autoinitializes, in its base range.
 abbrev pub mayWrite : ℕ → Channel → Bool
-mayWrite p c = writes c and (inside p (c .current) (down c) or (auto c and inside p (c .base) (down c)))
+mayWrite p c = writes c and (inside p (c .current) (down c) (width c) or (auto c and inside p (c .base) (down c) (width c)))
 
 -- The record r with its answer a disturbs the DMA chip: it is accepted, and a reset or a write to one of the chip's ports, 20H to 2FH (32 to 47).
 abbrev pub disturbs : List ℕ → List ℕ → Bool

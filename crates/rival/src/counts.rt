@@ -1,12 +1,12 @@
-// What the tapes do: how often each status, operation and kind of DMA cycle came, and how often register 0 reset the DMA chip, counted by the second
-// board's answers.
+// What the tapes do: how often each status, operation and kind of DMA cycle came, each case of register 0 of the DMA chip, and modes by words, counted by
+// the records and the second board's answers.
 use crate::show;
 use crate::stretch::Answers;
 use crate::stretch::Tape;
 use libc::STDOUT_FILENO;
 
 // The counts, in the order in which they are printed: records; calls of the first board, of them those refused with 7, and of these those on a board
-// with a field out of its range; statuses 0 to 6; operations 0 to 6, and any other; kinds of DMA cycle; resets by register 0 of the DMA chip.
+// with a field out of its range; statuses 0 to 6; operations 0 to 6, and any other; kinds of DMA cycle; cases of register 0; modes by words.
 pub struct Tally {
     pub n: [u64; 32],
 }
@@ -25,13 +25,13 @@ const OPERATIONS: usize = 11;
 
 const KINDS: usize = 19;
 
-const RESETS: usize = 23;
-// Not printed here: differences, calls that were not what they should be, and statuses that no record has.
-pub const DIFFERENCES: usize = 24;
+const COMMANDS: usize = 23;
 
-pub const WRONG: usize = 25;
+const MODES: usize = 28;
+// Not printed here: differences, and calls that were not what they should be.
+pub const DIFFERENCES: usize = 30;
 
-const STRANGE: usize = 26;
+pub const WRONG: usize = 31;
 
 pub fn zero() -> Tally {
     Tally { n: [0; 32] }
@@ -58,9 +58,6 @@ pub fn cleared(tally: Tally, place: usize) -> Tally {
 }
 
 fn place_of_status(status: u8) -> usize {
-    if status > 6 {
-        return STRANGE;
-    }
     STATUSES + second::index(second::wide(status)) % 7
 }
 
@@ -83,10 +80,33 @@ fn count_answer(tally: Tally, status: u8, op: u8, kind: u8) -> Tally {
     next
 }
 
-// A write of register 0 with D0 set, where it is taken.
-fn count_reset(tally: Tally, status: u8, op: u8, port: u8, data: u8) -> Tally {
-    if (status == 0) & (op == 1) & (port == 0x20) & (data % 2 == 1) {
-        return add(tally, RESETS, 1);
+// 1 for status 4.
+fn refused(status: u8) -> usize {
+    second::index(second::wide(status)) / 4 % 2
+}
+
+// Register 0: D0 without D1 and with it, D1 alone, neither, which may be refused.
+fn place_of_command(status: u8, data: u8) -> usize {
+    match data % 4 {
+        1 => COMMANDS,
+        3 => COMMANDS + 1,
+        2 => COMMANDS + 2,
+        _ => COMMANDS + 3 + refused(status) % 2,
+    }
+}
+
+// Whether a mode byte is refused for its word bit alone, if it is refused.
+fn is_by_words(data: u8) -> bool {
+    (data % 4 == 1) & (data / 4 % 4 != 3) & (data / 64 != 3)
+}
+
+// A write that the chip has taken or refused with 4.
+fn count_write(tally: Tally, status: u8, port: u8, data: u8) -> Tally {
+    if (port == 0x2A) & is_by_words(data) {
+        return add(tally, MODES + refused(status) % 2, 1);
+    }
+    if port == 0x20 {
+        return add(tally, place_of_command(status, data), 1);
     }
     tally
 }
@@ -98,14 +118,11 @@ pub fn count_answers(tally: Tally, tape: &Tape, answers: &Answers) -> Tally {
     while i < 64 {
         let place = i * 16;
         let at = i * 8;
-        next = count_answer(next, answers[place], answers[place + 1], answers[place + 4]);
-        next = count_reset(
-            next,
-            answers[place],
-            answers[place + 1],
-            tape[at + 1],
-            tape[at + 2],
-        );
+        let status = answers[place];
+        next = count_answer(next, status, answers[place + 1], answers[place + 4]);
+        if (tape[at] == 1) & ((status == 0) | (status == 4)) {
+            next = count_write(next, status, tape[at + 1], tape[at + 2]);
+        }
         i += 1;
     }
     next
@@ -138,7 +155,11 @@ cycles, nothing: %
 cycles, granted: %
 cycles, moved: %
 cycles, released: %
-resets of the DMA chip by register 0: %
+register 0, D0 set and D1 clear: %
+D0 and D1 set: %
+D0 clear and D1 set: %
+D0 and D1 clear, taken %, refused with 4 %
+modes by words: taken %, refused on a narrow bus %
 ",
         numbers,
     )

@@ -13,6 +13,10 @@ pub const NAME: u32 = 4;
 
 const REMARK: u32 = 5;
 
+const MEMORY: u32 = 6;
+
+pub const LENT: u32 = 7;
+
 // What is wrong with a line: the rows of `run::complain` in the program `duel`.
 pub const NOTHING: u32 = 0;
 
@@ -43,7 +47,7 @@ pub const FULL: u32 = 12;
 pub const CUT: u32 = 13;
 
 // The number under way, whether it has a digit, and how many came before it in its half of the line; the operation, 7 for a raw record; the record,
-// its answer, and a chart's name.
+// its answer, a chart's name, and the length of its memory.
 pub struct Line {
     pub part: u32,
     number: u32,
@@ -54,6 +58,7 @@ pub struct Line {
     pub answer: [u8; 16],
     pub name: [u8; 64],
     pub length: usize,
+    pub memory: u32,
     fault: u32,
 }
 
@@ -68,12 +73,13 @@ pub fn blank() -> Line {
         answer: [0; 16],
         name: [0; 64],
         length: 0,
+        memory: 0,
         fault: NOTHING,
     }
 }
 
 // What a byte is: 0 to 15 a digit, 16 a blank, 17 a colon, 18 a semicolon, 20 to 26 the letter of an operation, 27 that of a raw record, 28 and 29 the
-// beginnings of a name and of a remark, 30 none of these.
+// beginnings of a name and of a remark, 30 that of a memory's length, 31 none of these.
 fn meaning(b: u8) -> u32 {
     match b {
         b'0'..=b'9' | b'A'..=b'F' => second::wide(words::notation::digit(b)),
@@ -90,7 +96,8 @@ fn meaning(b: u8) -> u32 {
         b'x' => 27,
         b'#' => 28,
         b'/' => 29,
-        _ => 30,
+        b'm' => 30,
+        _ => 31,
     }
 }
 
@@ -101,9 +108,18 @@ fn numbers_of(op: u32) -> u32 {
         2 => 1,
         3 => 2,
         5 => 1,
-        6 => 2,
+        6 => 3,
         7 => 8,
         _ => 0,
+    }
+}
+
+// How many of them have to be there.
+fn fewest(op: u32) -> u32 {
+    match op {
+        6 => 2,
+        7 => 1,
+        _ => numbers_of(op),
     }
 }
 
@@ -140,6 +156,7 @@ fn take_first(line: Line, m: u32) -> Line {
         20..=27 => open_record(line, m),
         28 => at_part(line, NAME),
         29 => at_part(line, REMARK),
+        30 => at_part(line, MEMORY),
         _ => with_fault(line, LETTER),
     }
 }
@@ -187,9 +204,18 @@ fn put_answered(line: Line, n: u32) -> Line {
     next
 }
 
+fn put_memory(line: Line, n: u32) -> Line {
+    let mut next = line;
+    next.memory = n;
+    next
+}
+
 fn put_number(line: Line, n: u32) -> Line {
     if line.part == ANSWER {
         return put_answered(line, n);
+    }
+    if line.part == MEMORY {
+        return put_memory(line, n);
     }
     if line.op == 5 {
         return put_pulses(line, n);
@@ -199,7 +225,12 @@ fn put_number(line: Line, n: u32) -> Line {
 
 // The most numbers that this half of the line has.
 fn most(line: Line) -> u32 {
-    second::choose(line.part == ANSWER, 15, numbers_of(line.op))
+    let part = line.part;
+    match part {
+        ANSWER => 15,
+        MEMORY => 1,
+        _ => numbers_of(line.op),
+    }
 }
 
 fn end_number(line: Line) -> Line {
@@ -219,28 +250,28 @@ fn end_number(line: Line) -> Line {
     next
 }
 
-// A colon ends the record: only a raw one may leave numbers out at its end.
+// A colon ends the record, which may have left out numbers at its end: a raw one its zeros, a cycle the upper byte.
 fn take_colon(line: Line) -> Line {
     if line.part != RECORD {
         return with_fault(line, SEMICOLON);
     }
     let next = end_number(line);
-    if next.field < second::choose(line.op == 7, 1, numbers_of(line.op)) {
+    if next.field < fewest(line.op) {
         return with_fault(next, FEW);
     }
     at_part(next, ANSWER)
 }
 
-// A semicolon ends the answer, whose first number has to be there.
+// A semicolon ends the answer, or the length of a memory. The first number has to be there.
 fn take_semicolon(line: Line) -> Line {
-    if line.part != ANSWER {
+    if line.part == RECORD {
         return with_fault(line, COLON);
     }
     let next = end_number(line);
     if next.field == 0 {
         return with_fault(next, FEW);
     }
-    at_part(next, WHOLE)
+    at_part(next, second::choose(line.part == ANSWER, WHOLE, LENT))
 }
 
 fn take_inner(line: Line, m: u32) -> Line {
@@ -281,7 +312,7 @@ pub fn take(line: Line, b: u8) -> Line {
     let part = line.part;
     match part {
         BLANK => take_first(line, meaning(b)),
-        WHOLE => take_rest(line, meaning(b)),
+        WHOLE | LENT => take_rest(line, meaning(b)),
         NAME => take_letter(line, b),
         REMARK => line,
         _ => take_inner(line, meaning(b)),
@@ -297,7 +328,7 @@ pub fn fault_of(line: Line) -> u32 {
     }
     match part {
         RECORD => COLON,
-        ANSWER => SEMICOLON,
+        ANSWER | MEMORY => SEMICOLON,
         NAME => second::choose(line.length == 0, NAMELESS, NOTHING),
         _ => NOTHING,
     }

@@ -1,9 +1,9 @@
 // A stretch of tape: 64 records at most, with room for their answers. Both boards run it. `differ_at` holds answers against answers and `first_apart`
 // memory against memory; nothing else compares the boards.
-use crate::counts::Tally;
 use crate::modes;
 use crate::modes::Modes;
 use crate::places;
+use crate::places::Places;
 use crate::requests;
 use crate::requests::Requests;
 use crate::slave;
@@ -140,11 +140,11 @@ pub struct Ran {
     pub modes: Modes,
     pub requests: Requests,
     pub slave: Slave,
-    pub places: Tally,
+    pub places: Places,
 }
 
 // The second board from reset, with the counts so far.
-pub fn from_reset(modes: Modes, requests: Requests, slave: Slave, places: Tally) -> Ran {
+pub fn from_reset(modes: Modes, requests: Requests, slave: Slave, places: Places) -> Ran {
     let s = second::second_reset();
     Ran {
         s: s,
@@ -174,7 +174,7 @@ fn run_one(
         modes: modes::count_record(ran.modes, s, next, low, high, answer),
         requests: requests::count_record(ran.requests, s, next, low, answer),
         slave: slave::count_record(ran.slave, s, next, low, answer),
-        places: places::count_record(ran.places, s, memory.len(), answer),
+        places: places::count_record(ran.places, s, low, memory, answer),
     }
 }
 

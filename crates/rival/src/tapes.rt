@@ -5,7 +5,7 @@
 // written again, reads), a channel with its requests and cycles (some of these after a reset of the DMA chip by register 0), a latch and reads of
 // a counter, or both interrupt chips with what may happen to the two. In the end one record in thirty-two has a byte changed, whatever that makes of it.
 //
-// Addresses lie near 0, near the memory's end and near FFFFFFH.
+// Addresses lie near 0, near the memory's end and near FFFFFFH. Most channels begin by turning the wide bus on, and more than half of the modes are by words.
 
 pub struct Maker {
     pub seed: u32,
@@ -79,8 +79,11 @@ fn advance(y: u32) -> [u8; 8] {
     [5, 0, 0, 0, low(few), low(many), 0, 0]
 }
 
+// The device's two bytes are any, also where no word moves.
 fn cycle(y: u32) -> [u8; 8] {
-    record_of(6, seldom(y, 13, 1), y / 256)
+    let mut record = record_of(6, seldom(y, 13, 1), y / 256);
+    record[3] = low(y / 65536);
+    record
 }
 
 // One in 32 records of lines has a level that its group lacks.
@@ -265,7 +268,12 @@ fn run_step(step: u32, choice: u32, y: u32) -> [u8; 8] {
     }
 }
 
-// The script of a channel: its registers, its request, and some cycles.
+// The script of a channel: the bus, its registers, its request, and some cycles.
+
+// The bus is to be narrow once in four, which is refused while a channel's mode is by words.
+fn bus(y: u32) -> [u8; 8] {
+    write_of(0x20, y & 0xFC | second::choose(y / 256 % 4 == 0, 0, 2))
+}
 
 const CONTROLS: [u32; 8] = [0x00, 0x10, 0x10, 0x10, 0x00, 0x10, 0x04, 0x14];
 
@@ -274,44 +282,45 @@ fn control(y: u32) -> u32 {
     CONTROLS[row]
 }
 
-// Within four places of 0, of FFFFFFH, or, one in two, of the memory's end.
+// From two places below 0 to five above it, from six below it to one above, or, one in two, within four of the memory's end.
 fn address_of(choice: u32, memory: u32) -> u32 {
     let near = choice / 64 % 8 + 16777212;
     let place = choice / 16 % 4;
     match place {
-        0 => near % 16777216,
-        1 => (near - 4) % 16777216,
+        0 => (near + 2) % 16777216,
+        1 => (near - 2) % 16777216,
         _ => (near + memory % 16777216) % 16777216,
     }
 }
 
 fn channel_mode(y: u32) -> u32 {
-    y % 3 * 64 + y / 256 % 4 * 16 + y / 65536 % 3 * 4
+    let by_words = second::choose(y / 16777216 % 3 > 0, 1, 0) % 2;
+    y % 3 * 64 + y / 256 % 4 * 16 + (y / 65536 % 8 + 1) % 3 * 4 + by_words
 }
 
 fn channel_step(step: u32, choice: u32, memory: u32, y: u32) -> [u8; 8] {
     let address = address_of(choice, memory);
     match step {
-        0 => write_of(0x21, choice % 4 | seldom(choice / 1024, 5, 4)),
-        1 => write_of(0x22, y % 6),
-        2 => write_of(0x23, seldom(y, 15, y / 256 % 2 * 255)),
-        3 => write_of(0x24, address),
-        4 => write_of(0x25, address / 256),
-        5 => write_of(0x26, address / 65536),
-        6 => write_of(0x2A, channel_mode(y)),
-        7 => write_of(0x28, control(y)),
-        8 => write_of(0x2F, y & y >> 8 & y >> 16 & 15),
-        9 => record_of(3, 2, (y & y >> 8) % 16 | 1 << (choice % 4)),
+        0 => bus(y),
+        1 => write_of(0x21, choice % 4 | seldom(choice / 1024, 5, 4)),
+        2 => write_of(0x22, y % 6),
+        3 => write_of(0x23, seldom(y, 15, y / 256 % 2 * 255)),
+        4 => write_of(0x24, address),
+        5 => write_of(0x25, address / 256),
+        6 => write_of(0x26, address / 65536),
+        7 => write_of(0x2A, channel_mode(y)),
+        8 => write_of(0x28, control(y)),
+        9 => write_of(0x2F, y & y >> 8 & y >> 16 & 15),
+        10 => record_of(3, 2, (y & y >> 8) % 16 | 1 << (choice % 4)),
         _ => cycle(y),
     }
 }
 
-// The script of a reset: register 0 with D0 set, and D1 seldom, which makes it one that is not built; some registers read; a channel selected, base or
-// not, and one of its numbers read.
+// The script of a reset: register 0 with D0 set, and any D1; some registers read; a channel selected, base or not, and one of its numbers read.
 
 fn reset_step(step: u32, choice: u32, y: u32) -> [u8; 8] {
     match step {
-        0 => write_of(0x20, y & 0xFC | 1 | seldom(y / 256, 15, 2)),
+        0 => write_of(0x20, y & 0xFE | 1),
         3 => write_of(0x21, choice / 4 % 8),
         4 => read_of(0x22 + y % 5),
         _ => read_of(0x21 + y % 15),
@@ -570,7 +579,7 @@ fn steps_of(script: u32, choice: u32) -> u32 {
         5 => 5,
         6 => choice / 4096 % 16 + 6,
         7 => happenings(choice) % 64 + 24,
-        _ => choice / 4096 % 10 + 12,
+        _ => choice / 4096 % 12 + 14,
     }
 }
 
@@ -603,7 +612,7 @@ fn begun(x: u32) -> u32 {
     match k {
         0..=1 => 1,
         2..=7 | 17 => 2,
-        8..=10 => second::choose(x / 16777216 % 5 == 0, 5, 3),
+        8..=10 | 18 => second::choose(x / 16777216 % 5 == 0, 5, 3),
         11..=12 => 4,
         13..=15 => 6,
         16 => 7,

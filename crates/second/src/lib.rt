@@ -1,5 +1,6 @@
-// The board of document 01, with the timer's six modes, with edge requests that a fall withdraws, with a slave chip on line 7 and with units that say
-// where they fell outside the memory, a second time: written from the documents alone and held against the first by running both on the same tapes.
+// The board of document 01, with the timer's six modes, with edge requests that a fall withdraws, with a slave chip on line 7, with units that say
+// where they fell outside the memory and with words, a second time: written from the documents alone and held against the first by running both on the
+// same tapes.
 //
 // The whole board is one array of 112 numbers, which functions take and give back by value. What a record may be is read off tables, every refusal
 // is decided before anything changes, and an advance is worked out by division, with no loop over its pulses.
@@ -70,7 +71,7 @@ const LOADED: usize = 14;
 // In mode 3, 1 when the count that runs is odd.
 const ODD: usize = 15;
 
-// The DMA chip: places 64 to 71, then five for each channel.
+// The DMA chip: places 64 to 71, then five for each channel, and one more.
 const SELECTED: usize = 64;
 
 const BASE: usize = 65;
@@ -86,6 +87,8 @@ const MASKS: usize = 69;
 const FIRST: usize = 70;
 // 0 idle, else the channel served plus 1.
 const SERVED: usize = 71;
+// 1 while the bus is 16 bits wide: D1 of register 0.
+const BUS: usize = 92;
 
 // A channel's places: base and current stand two apart.
 const BASE_COUNT: usize = 0;
@@ -100,7 +103,7 @@ const CHANNEL_MODE: usize = 4;
 
 // What a record may be. For each operation: what bytes 0 to 3, and bytes 4 to 7, may have other than zero. (An advance over 65,535 pulses has byte 6
 // or 7 set.)
-const USED_LOW: [u32; 8] = [0xFF, 0xFFFFFF, 0xFFFF, 0xFFFFFF, 0xFF, 0xFF, 0xFFFFFF, 0];
+const USED_LOW: [u32; 8] = [0xFF, 0xFFFFFF, 0xFFFF, 0xFFFFFF, 0xFF, 0xFF, 0xFFFFFFFF, 0];
 
 const USED_HIGH: [u32; 8] = [0, 0, 0, 0, 0, 0xFFFF, 0, 0];
 // For each high nibble of a port: bit i is set where the port with low nibble i is open to a write, or to a read.
@@ -159,7 +162,7 @@ const TRIGGERED: u32 = 0x5C;
 const STROBED: u32 = 0x60;
 // For each DMA register: the bits of a written byte that are not built. 100H marks a register no use of which is built.
 const UNBUILT: [u32; 16] = [
-    0x02,
+    0,
     0,
     0,
     0,
@@ -169,7 +172,7 @@ const UNBUILT: [u32; 16] = [
     0,
     0xEB,
     0xFF,
-    0x03,
+    0x02,
     0,
     0x100,
     0x100,
@@ -1093,11 +1096,29 @@ fn blank(s: State, channel: u32) -> State {
     )
 }
 
-fn dma_write_status(register: u32, b: u32) -> u32 {
+// The word bit of a mode byte.
+fn by_words(mode: u32) -> bool {
+    has(mode, 0)
+}
+
+fn mode_byte(s: State, channel: u32) -> u32 {
+    channel_of(s, channel, CHANNEL_MODE)
+}
+
+// What is not built besides single bits: mode 11, direction 11, a mode by words on a narrow bus, and a narrow bus where some channel's mode is by words.
+fn misfits(s: State, register: u32, b: u32) -> bool {
+    let modes = mode_byte(s, 0) | mode_byte(s, 1) | mode_byte(s, 2) | mode_byte(s, 3);
+    match register {
+        0 => (b % 4 == 0) & by_words(modes),
+        10 => (b & 0xC0 == 0xC0) | (b & 0x0C == 0x0C) | (by_words(b) & (get(s, BUS) == 0)),
+        _ => false,
+    }
+}
+
+fn dma_write_status(s: State, register: u32, b: u32) -> u32 {
     let row = index(register) % 16;
     let unbuilt = (b % 256 + 256) & UNBUILT[row] != 0;
-    let mode = (register == 10) & ((b & 0xC0 == 0xC0) | (b & 0x0C == 0x0C));
-    number(unbuilt | mode) * 4
+    number(unbuilt | misfits(s, register, b)) * 4
 }
 
 fn dma_read_status(register: u32) -> u32 {
@@ -1163,12 +1184,13 @@ fn write_control(s: State, b: u32) -> State {
     set(set(s, FIRST, first), CONTROL, b)
 }
 
-// Register 0 resets the chip where D0 is set.
+// Register 0: D0 resets the chip, and D1 is the bus from then on, with or without D0.
 fn write_command(s: State, b: u32) -> State {
+    let bus = bit(b, 1);
     if has(b, 0) {
-        return dma_reset(s);
+        return set(dma_reset(s), BUS, bus);
     }
-    s
+    set(s, BUS, bus)
 }
 
 fn dma_write(s: State, register: u32, b: u32) -> State {
@@ -1190,7 +1212,7 @@ fn dma_shown(s: State, register: u32) -> u32 {
         1 => one(channel) | bit(get(s, BASE), 0) * 16,
         2..=6 => read_number(s, register),
         8 => get(s, CONTROL),
-        10 => channel_of(s, channel, CHANNEL_MODE),
+        10 => mode_byte(s, channel),
         11 => get(s, REQUESTS) % 16 * 16 + get(s, ENDS) % 16,
         15 => get(s, MASKS),
         _ => 0,
@@ -1259,14 +1281,27 @@ fn move_byte(mode: u32, address: u32, device: u8, memory: &mut [u8]) -> u8 {
     0xFF
 }
 
-// 1 where a unit has no byte of memory at its address. Verify looks for none.
-fn fallen(mode: u32, address: u32, length: usize) -> u32 {
-    number((direction(mode) != 0) & (index(address % 16777216) >= length))
+// One unit, as a number of one byte or two, the lower one first. A word is the byte at the even address and the one above it, whichever of the two
+// the address names.
+fn move_unit(mode: u32, address: u32, device: u32, memory: &mut [u8]) -> u32 {
+    if !by_words(mode) {
+        return wide(move_byte(mode, address, narrow(device), memory));
+    }
+    let lower = move_byte(mode, address & !1, narrow(device), memory);
+    let upper = move_byte(mode, address | 1, narrow(device / 256), memory);
+    word(wide(lower), wide(upper), 0, 0)
 }
 
-// One step up or down of a 24-bit address.
+// 1 where the memory lacks a byte of the unit, and so its last one. Verify looks for none.
+fn fallen(mode: u32, address: u32, length: usize) -> u32 {
+    let last = address | mode % 2;
+    number((direction(mode) != 0) & (index(last % 16777216) >= length))
+}
+
+// One step up or down of a 24-bit address: by one, or by two where words move.
 fn stepped(mode: u32, address: u32) -> u32 {
-    let by = choose(has(mode, 5), 16777215, 1);
+    let width = mode % 2 + 1;
+    let by = choose(has(mode, 5), 16777216 - width, width);
     (address % 16777216 + by % 16777216) % 16777216
 }
 
@@ -1286,12 +1321,11 @@ fn end(s: State, channel: u32, mode: u32) -> State {
     set(told, MASKS, get(s, MASKS) | one(channel))
 }
 
-// One unit, with END as given and the byte that moved.
-fn unit(s: State, channel: u32, mode: u32, address: u32, ended: bool, moved: u8) -> Effect {
+// What a unit leaves, with END as given and the lower byte that moved.
+fn unit(s: State, channel: u32, mode: u32, address: u32, ended: bool, data: u32) -> Effect {
     let count = channel_of(s, channel, CURRENT_COUNT) % 65536;
     let place = set_channel(s, channel, CURRENT_ADDRESS, stepped(mode, address));
     let next = set_channel(place, channel, CURRENT_COUNT, (count + 65535) % 65536);
-    let data = wide(moved);
     if ended | (count == 0) {
         let after = stop(end(next, channel, mode), channel);
         return with_words(after, data, word(2, channel, 1, 1), address);
@@ -1302,26 +1336,39 @@ fn unit(s: State, channel: u32, mode: u32, address: u32, ended: bool, moved: u8)
     with_words(next, data, word(2, channel, 0, 0), address)
 }
 
-fn cycle(s: State, ended: bool, device: u8, memory: &mut [u8]) -> Effect {
+fn cycle(s: State, ended: bool, device: u32, memory: &mut [u8]) -> Effect {
     let served = get(s, SERVED);
     if served == 0 {
         return grant(s);
     }
     let channel = (served % 8 + 7) % 8 % 4;
-    let mode = channel_of(s, channel, CHANNEL_MODE);
+    let mode = mode_byte(s, channel);
     let address = channel_of(s, channel, CURRENT_ADDRESS);
     if (mode / 64 % 4 == 0) & !has(get(s, REQUESTS), channel) {
         return with_words(stop(s, channel), 0, word(3, channel, 0, 1), 0);
     }
-    let moved = move_byte(mode, address, device, memory);
-    let mut told = unit(s, channel, mode, address, ended, moved);
-    told.third = fallen(mode, address, memory.len());
+    let moved = move_unit(mode, address, device, memory);
+    let mut told = unit(s, channel, mode, address, ended, moved % 256);
+    told.third = fallen(mode, address, memory.len()) | moved & 0xFF00;
     told
 }
 
-// What the duel counts units by: the direction of a channel modulo 4.
-pub fn direction_of(s: State, channel: u32) -> u32 {
-    direction(channel_of(s, channel, CHANNEL_MODE))
+// What the duel counts units by: how a channel modulo 4 moves them.
+pub struct Moving {
+    // 0 verify, 1 device to memory, 2 memory to device.
+    pub direction: u32,
+    // 1 where the address falls.
+    pub down: u32,
+    pub by_words: bool,
+}
+
+pub fn watch_channel(s: State, channel: u32) -> Moving {
+    let mode = mode_byte(s, channel);
+    Moving {
+        direction: direction(mode),
+        down: bit(mode, 5),
+        by_words: by_words(mode),
+    }
 }
 
 // The board.
@@ -1331,7 +1378,7 @@ fn write_status(s: State, port: u32, b: u32) -> u32 {
     match chip {
         0 => icu_write_status(s, MASTER, port % 2, b),
         1 => timer_write_status(s, port % 4, b),
-        2 => dma_write_status(port % 16, b),
+        2 => dma_write_status(s, port % 16, b),
         _ => icu_write_status(s, SLAVE, port % 2, b),
     }
 }
@@ -1401,8 +1448,11 @@ fn set_lines(s: State, group: u32, levels: u32) -> State {
     }
 }
 
-// What a record that is taken does. Bytes 4 and 5 are the pulses of an advance.
-fn obey(s: State, op: u32, x: u32, y: u32, high: u32, memory: &mut [u8]) -> Effect {
+// What a record that is taken does. Bytes 2 and 3 are what the device has for a unit, bytes 4 and 5 the pulses of an advance.
+fn obey(s: State, low: u32, high: u32, memory: &mut [u8]) -> Effect {
+    let op = low % 256;
+    let x = low / 256 % 256;
+    let y = low / 65536 % 256;
     match op {
         0 => with_data(second_reset(), 0),
         1 => with_data(write(s, x, y), 0),
@@ -1410,7 +1460,7 @@ fn obey(s: State, op: u32, x: u32, y: u32, high: u32, memory: &mut [u8]) -> Effe
         3 => with_data(set_lines(s, x, y), 0),
         4 => acknowledge(s),
         5 => advance(s, high % 65536),
-        _ => cycle(s, x == 1, narrow(y), memory),
+        _ => cycle(s, x == 1, low / 65536, memory),
     }
 }
 
@@ -1463,7 +1513,7 @@ pub fn second_step(s: State, low: u32, high: u32, memory: &mut [u8]) -> Answered
     if status != 0 {
         return sealed(s, with_data(s, 0), status, op);
     }
-    let d = obey(s, op, x, y, high, memory);
+    let d = obey(s, low, high, memory);
     let next = d.s;
     sealed(follow(next, s, d.rose), d, 0, op)
 }

@@ -27,7 +27,7 @@ pub data Decodes (r : List ℕ) : Decoded → Type 0 where
   slave-intp : eqb (byte r 0) 3 ≡ true → Decodes r (Asked (SlaveIntp (byte r 2)))
   acknowledge : eqb (byte r 0) 4 ≡ true → Decodes r (Asked Acknowledge)
   advance : eqb (byte r 0) 5 ≡ true → leb (pulseCount r) 65535 ≡ true → Decodes r (Asked (Advance (pulseCount r)))
-  cycle : eqb (byte r 0) 6 ≡ true → Decodes r (Asked (Cycle (eqb (byte r 1) 1) (byte r 2)))
+  cycle : eqb (byte r 0) 6 ≡ true → Decodes r (Asked (Cycle (eqb (byte r 1) 1) (byte r 2) (byte r 3)))
 
 -- One of two, by a test that is known on each side.
 pub either : {A : Type 0} (P : A → Type 0) (q : Bool) {a b : A} → (q ≡ true → P a) → (q ≡ false → P b) → P (if q then a else b)
@@ -68,7 +68,7 @@ module _ (r : List ℕ) where
       (λ _. either (Decodes r) (eqb (byte r 0) 5)
       (λ o. both (unused r 1 3) (leb (pulseCount r) 65535) (advance o))
       (λ _. either (Decodes r) (eqb (byte r 0) 6)
-      (λ o. both (unused r 3 5) (leb (byte r 1) 1) (λ _. cycle o))
+      (λ o. both (unused r 4 4) (leb (byte r 1) 1) (λ _. cycle o))
       (λ _. malformed)))))))
 
   -- past 3 there are the operations 4 to 6
@@ -93,7 +93,7 @@ Open (Asked (Requests l)) = Unit
 Open (Asked (SlaveIntp l)) = Unit
 Open (Asked Acknowledge) = Unit
 Open (Asked (Advance n)) = Unit
-Open (Asked (Cycle e x)) = Unit
+Open (Asked (Cycle e x y)) = Unit
 
 opened : (r : List ℕ) (d : Decoded) → Decodes r d → Open d
 opened r _ malformed = tt

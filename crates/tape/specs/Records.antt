@@ -72,7 +72,7 @@ decodeOf r =
     else if eqb (byte r 0) 3 then (if unused r 3 5 then linesAsked (byte r 1) (byte r 2) else Malformed)
     else if eqb (byte r 0) 4 then askedIf (unused r 1 7) Acknowledge
     else if eqb (byte r 0) 5 then askedIf (unused r 1 3 and leb (pulseCount r) 65535) (Advance (pulseCount r))
-    else if eqb (byte r 0) 6 then askedIf (unused r 3 5 and leb (byte r 1) 1) (Cycle (eqb (byte r 1) 1) (byte r 2))
+    else if eqb (byte r 0) 6 then askedIf (unused r 4 4 and leb (byte r 1) 1) (Cycle (eqb (byte r 1) 1) (byte r 2) (byte r 3))
     else Malformed
 
 -- Writes, reads and acknowledges need the bus, which a served DMA channel has.
@@ -86,4 +86,4 @@ usesBus (Requests l) = false
 usesBus (SlaveIntp l) = false
 usesBus Acknowledge = true
 usesBus (Advance n) = false
-usesBus (Cycle e b) = false
+usesBus (Cycle e b u) = false

@@ -20,8 +20,8 @@ pub enum Operation {
     Acknowledge,
     // pulses
     Advance(u32),
-    // END, the device's byte
-    Cycle(bool, u8),
+    // END, the device's byte, its upper one for a word
+    Cycle(bool, u8, u8),
 }
 
 pub enum Decoded {
@@ -95,13 +95,10 @@ pub fn byte_at(kept: [u8; 7], size: u8, tape: &[u8], j: usize) -> u8
     0
 }
 
-// Bytes 3 to 7 are zero.
-fn is_zero_from_3(r: [u8; 8]) -> bool
-    ensures { λ z. ⌜ z ≡ unused r 3 5 ⌝ }
+// Bytes 4 to 7 are zero.
+fn is_zero_from_4(r: [u8; 8]) -> bool
+    ensures { λ z. ⌜ z ≡ unused r 4 4 ⌝ }
 {
-    if r[3] != 0 {
-        return false;
-    }
     if r[4] != 0 {
         return false;
     }
@@ -115,6 +112,15 @@ fn is_zero_from_3(r: [u8; 8]) -> bool
         return false;
     }
     true
+}
+
+fn is_zero_from_3(r: [u8; 8]) -> bool
+    ensures { λ z. ⌜ z ≡ unused r 3 5 ⌝ }
+{
+    if r[3] != 0 {
+        return false;
+    }
+    is_zero_from_4(r)
 }
 
 fn is_zero_from_2(r: [u8; 8]) -> bool
@@ -294,9 +300,9 @@ fn decode_later(r: [u8; 8]) -> Decoded
         return Decoded::Malformed;
     }
     if op == 6 {
-        if is_zero_from_3(r) {
+        if is_zero_from_4(r) {
             if r[1] <= 1 {
-                return Decoded::Asked(Operation::Cycle(r[1] == 1, r[2]));
+                return Decoded::Asked(Operation::Cycle(r[1] == 1, r[2], r[3]));
             }
             return Decoded::Malformed;
         }
@@ -320,7 +326,7 @@ impl Operation {
             Operation::Requests(_) => false,
             Operation::SlaveIntp(_) => false,
             Operation::Advance(_) => false,
-            Operation::Cycle(_, _) => false,
+            Operation::Cycle(_, _, _) => false,
         }
     }
 }

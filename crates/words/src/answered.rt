@@ -5,12 +5,29 @@ use super::sentences;
 use super::text::Text;
 use icu::Icu;
 
-// An answer by itself: which way a unit went, and which port was read, is not known.
+// Which way a unit goes, as D3-D2 of its channel's mode say it, with bit 2 where it is a word, as D0 says.
+pub const TO_MEMORY: u8 = 1;
+
+pub const FROM_MEMORY: u8 = 2;
+
+const UNKNOWN: u8 = 3;
+
+const WORD: u8 = 4;
+
+pub fn way(mode: u8) -> u8 {
+    mode / 4 % 4 + mode % 2 * WORD
+}
+
+// An answer by itself: which way a unit went, and which port was read, is not known. A unit with an upper byte is a word; one without may be.
 pub fn words_alone(a: [u8; 16]) -> Text {
     if a[0] != 0 {
         return sentences::answered(0x20 + capped(a[0]) % 8, a);
     }
-    sentences::answered(done(a[1], a[4], 0x0c, 1), facts(a))
+    let mut unit = UNKNOWN;
+    if a[13] != 0 {
+        unit = UNKNOWN + WORD;
+    }
+    sentences::answered(done(a[1], a[4], 1), facts(a, unit))
 }
 
 // The operation that an answer is to.
@@ -26,7 +43,7 @@ fn capped(x: u8) -> u8 {
 }
 
 // What was done. `kind` is byte 4: the first byte of a CALL, or what a DMA cycle came to. The byte at port 00, or 30 of the slave, is a register with a bit for each level.
-pub fn done(op: u8, kind: u8, unit: u8, port: u8) -> u8 {
+pub fn done(op: u8, kind: u8, port: u8) -> u8 {
     match op {
         2 => match asked::master_port(port) {
             0 => 0x02,
@@ -39,7 +56,7 @@ pub fn done(op: u8, kind: u8, unit: u8, port: u8) -> u8 {
         5 => 0x05,
         6 => match kind {
             1 => 0x07,
-            2 => unit,
+            2 => 0x09,
             3 => 0x08,
             _ => 0x06,
         },
@@ -54,11 +71,11 @@ pub fn remark(chip: Icu, lines: u8, slave: u8) -> Text {
     f[14] = slave;
     if chip.int(lines) {
         f[12] = icu::highest(asking, chip.lowest);
-        return sentences::answered(0x0e, f);
+        return sentences::answered(0x0b, f);
     }
     f[12] = cause_of_low(chip.irr(lines), asking);
     f[13] = icu::highest(chip.isr, chip.lowest);
-    sentences::answered(0x0d, f)
+    sentences::answered(0x0a, f)
 }
 
 // Why INT is low: 0 no level asks, 1 every level that asks is masked, 2 none of the others outranks what is in service.
@@ -72,18 +89,43 @@ fn cause_of_low(irr: u8, asked: u8) -> u8 {
     2
 }
 
-// The answer, and where it is to a DMA cycle, how the unit ended, with bit 2 where its address was past the end of memory.
-pub fn facts(a: [u8; 16]) -> [u8; 16] {
+// The answer, and where it is to a DMA cycle what there is to say of a unit that goes a way.
+pub fn facts(a: [u8; 16], way: u8) -> [u8; 16] {
     if a[1] != 6 {
         return a;
     }
-    let outside = is_outside(a) as u8;
     let mut f = a;
-    f[12] = end(a[6], a[7]) | outside << 2;
+    f[4] = way;
+    f[12] = end(a[6], a[7]);
+    f[14] = 0;
+    f[15] = 0;
+    if is_odd_word(a, way) {
+        f[12] = f[12] | 4;
+        f[14] = 1;
+    }
+    if is_outside(a) {
+        f[12] = f[12] | 4;
+        f[14] = f[14] | 2;
+        f[15] = way;
+    }
     f
 }
 
-// Whether a unit's address was past the end of memory, as its answer says. Like the end and the free bus it is said by a 1, and by nothing else.
+// Whether an answer is of a unit.
+pub fn is_unit(a: [u8; 16]) -> bool {
+    a[0] == 0 && a[1] == 6 && a[4] == 2
+}
+
+// The bytes of a unit.
+pub fn size(way: u8) -> u8 {
+    1 + way / WORD % 2
+}
+
+fn is_odd_word(a: [u8; 16], way: u8) -> bool {
+    size(way) == 2 && a[8] % 2 == 1
+}
+
+// Whether a unit's address was past the end of memory, or of a word either byte's, as its answer says. Like the end and the free bus it is said by a 1, and by nothing else.
 pub fn is_outside(a: [u8; 16]) -> bool {
     a[12] == 1
 }
@@ -205,7 +247,10 @@ fn unbuilt(port: u8, x: u8) -> u8 {
             3 => 0x49,
             _ => match x / 4 % 4 {
                 3 => 0x4a,
-                _ => 0x4b,
+                _ => match x / 2 % 2 {
+                    0 => 0x45,
+                    _ => 0x4b,
+                },
             },
         },
         _ => 0x4c,

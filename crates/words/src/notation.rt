@@ -63,34 +63,36 @@ const PULSES: u8 = 4;
 
 const DEVICE: u8 = 5;
 
-const END: u8 = 6;
+const UPPER: u8 = 6;
 
-const RAW: u8 = 7;
+const END: u8 = 7;
 
-const NOTHING: u8 = 8;
+const RAW: u8 = 8;
 
-const SHORTER: u8 = 9;
+const NOTHING: u8 = 9;
 
-pub const LINE_FEED: u8 = 10;
+const SHORTER: u8 = 10;
+
+pub const LINE_FEED: u8 = 11;
 
 // From here on they say what stands there.
-const BYTE_ORDER_MARK: u8 = 11;
+const BYTE_ORDER_MARK: u8 = 12;
 
-const UTF_16: u8 = 12;
+const UTF_16: u8 = 13;
 
-const NO_BREAK_SPACE: u8 = 13;
+const NO_BREAK_SPACE: u8 = 14;
 
-const SOFT_HYPHEN: u8 = 14;
+const SOFT_HYPHEN: u8 = 15;
 
-const ODD_SPACE: u8 = 15;
+const ODD_SPACE: u8 = 16;
 
-const CONTROL: u8 = 16;
+const CONTROL: u8 = 17;
 
-const CARRIAGE_RETURN: u8 = 17;
+const CARRIAGE_RETURN: u8 = 18;
 
-const NOT_ASCII: u8 = 18;
+const NOT_ASCII: u8 = 19;
 
-pub const ENDLESS: u8 = 19;
+pub const ENDLESS: u8 = 20;
 
 // Whether a word ends at a byte, or where blanks are passed over, whether they do. A comment ends both.
 fn is_end_of(b: u8, word: bool) -> bool {
@@ -397,22 +399,32 @@ fn parse_advance(line: &[u8; 1000], n: usize, at: usize) -> Parsed {
     )
 }
 
+// After the word cycle: nothing, or the device's lower byte, then its upper one, then the word end.
 fn parse_cycle(line: &[u8; 1000], n: usize, at: usize) -> Parsed {
-    let device = next_word(line, n, at);
-    if device.start == device.end {
+    let lower = next_word(line, n, at);
+    if lower.start == lower.end {
         return Parsed::record([6, 0, 0, 0, 0, 0, 0, 0]);
     }
-    if device.is_byte {
-        let w = next_word(line, n, device.end);
-        if w.start == w.end {
-            return Parsed::record([6, 0, device.byte, 0, 0, 0, 0, 0]);
+    if lower.is_byte {
+        let upper = next_word(line, n, lower.end);
+        if upper.is_byte {
+            return parse_end(line, n, upper.end, lower.byte, upper.byte, END);
         }
-        if verb(line, w.start, w.end) == THE_END {
-            return close(line, n, w.end, [6, 1, device.byte, 0, 0, 0, 0, 0]);
-        }
-        return bad_word(line, w, END);
+        return parse_end(line, n, lower.end, lower.byte, 0, UPPER);
     }
-    bad_word(line, device, DEVICE)
+    bad_word(line, lower, DEVICE)
+}
+
+// A cycle whose bytes are known: the word end, or nothing more.
+fn parse_end(line: &[u8; 1000], n: usize, at: usize, lower: u8, upper: u8, expected: u8) -> Parsed {
+    let w = next_word(line, n, at);
+    if w.start == w.end {
+        return Parsed::record([6, 0, lower, upper, 0, 0, 0, 0]);
+    }
+    if verb(line, w.start, w.end) == THE_END {
+        return close(line, n, w.end, [6, 1, lower, upper, 0, 0, 0, 0]);
+    }
+    bad_word(line, w, expected)
 }
 
 // A line that is bytes after its first word: what its record starts with, which of its bytes follow, and what is expected where one is missing.
@@ -543,7 +555,11 @@ fn parse_words(line: &[u8; 1000], n: usize) -> Parsed {
 
 // Bytes 3 to 7 of a record are zero; it stands first among the facts.
 pub fn is_zero_later(r: [u8; 16]) -> bool {
-    r[3] | r[4] | r[5] | r[6] | r[7] == 0
+    r[3] | last_four(r) == 0
+}
+
+fn last_four(r: [u8; 16]) -> u8 {
+    r[4] | r[5] | r[6] | r[7]
 }
 
 // The sentence of the line that stands for a record: whatever has no line of its own is raw.
@@ -554,10 +570,30 @@ pub fn sentence(r: [u8; 16]) -> u8 {
             _ => 0x00,
         };
     }
+    if r[0] == 6 {
+        return match last_four(r) {
+            0 => cycle_sentence(r[1], r[2], r[3]),
+            _ => 0x00,
+        };
+    }
     if is_zero_later(r) {
         return short_sentence(r[0], r[1], r[2]);
     }
     0x00
+}
+
+// The upper byte goes unsaid where it is 00, and the lower one too where nothing follows it.
+fn cycle_sentence(end: u8, lower: u8, upper: u8) -> u8 {
+    if 1 < end {
+        return 0x00;
+    }
+    if 0 < upper {
+        return 0x08;
+    }
+    match end | lower {
+        0 => 0x06,
+        _ => 0x07,
+    }
 }
 
 fn short_sentence(op: u8, x: u8, y: u8) -> u8 {
@@ -580,14 +616,6 @@ fn short_sentence(op: u8, x: u8, y: u8) -> u8 {
         },
         4 => match x | y {
             0 => 0x0b,
-            _ => 0x00,
-        },
-        6 => match x {
-            0 => match y {
-                0 => 0x06,
-                _ => 0x07,
-            },
-            1 => 0x08,
             _ => 0x00,
         },
         _ => 0x00,

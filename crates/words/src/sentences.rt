@@ -6,6 +6,7 @@
 //   $B    the fact, as two hexadecimal digits
 //   =B    four facts from B on, little end first, as a decimal number
 //   @B    the same as an address of six hexadecimal digits
+//   ~B    the even address of the word that uses it
 //   %BSW  the number that W bits of the fact make, from bit S on
 //   *BSW  which of these bits are set
 //   {BSWnone|one|two}  the words for that number, and nothing where there are none; a choice holds no other choice
@@ -29,8 +30,8 @@ pub fn asked(n: u8, facts: [u8; 16]) -> Text {
 04 gates $2
 05 requests $2
 06 cycle
-07 cycle $2
-08 cycle $2 end
+07 cycle $2{101| end}
+08 cycle $2 $3{101| end}
 09 advance =4
 0A reset
 0B acknowledge
@@ -43,6 +44,7 @@ pub fn asked(n: u8, facts: [u8; 16]) -> Text {
 13 reset
 14 interrupt acknowledge
 15 {102INTP lines|gates|DMA requests|slave lines}: $2 (high:*208)
+16 DMA cycle, device has $2 $3{101|, END}
 
 20 {E01|slave }IW1: $2 ({231edge|level}, {211extended, }{201no IW4|IW4 follows})
 21 {E01|slave }MCW{203|| read IRR| read ISR| poll| poll| poll| poll}: $2
@@ -62,12 +64,12 @@ pub fn asked(n: u8, facts: [u8; 16]) -> Text {
 34 counter %102 count{A02| low| high}: $2
 35 read counter %102{A02| low| high}{B01|, latched}
 
-40 DMA initialize: $2{201| (reset)}
+40 DMA initialize: $2 ({201|reset, }{2118|16}-bit bus)
 41 DMA select channel %202{221| base}: $2
 42 channel %802 {103||count low|count high|address low|address middle|address high}: $2{901| (base)}
 43 DMA device control: $2{223| (disabled)|| (disabled)| (rotate)| (rotate, disabled)| (rotate)| (rotate, disabled)}
 44 DMA device control high: $2
-45 channel %802 mode: $2 ({262demand|single|block|cascade}, {222verify|to memory|to device|direction 11}{251|, downwards}{241|, autoinitialize})
+45 channel %802 mode: $2 ({262demand|single|block|cascade}, {222verify|to memory|to device|direction 11}{201|, words}{251|, downwards}{241|, autoinitialize})
 46 DMA {102temporary low|temporary high|request register}: $2
 47 DMA masks: $2 (masked:*204)
 48 read DMA selection
@@ -82,9 +84,10 @@ pub fn asked(n: u8, facts: [u8; 16]) -> Text {
     )
 }
 
-// What was done, and the operation that an answer is to. The facts are the answer; of a unit C says how it ended (1 with its service, 2 as that and as
-// the last one), with bit 2 where its address is past the end of memory. 0D and 0E follow the bytes of an acknowledge, with the INT of the chip that
-// answers low or high: E says whether that is the slave, C why its INT is low or the level that it gives, D its highest level in service.
+// What was done, and the operation that an answer is to. The facts are the answer. Of a unit 4 says which way it went, as D3-D2 of a mode do, or 3 where that is not
+// known, with bit 2 where it is a word; C how it ended (1 with its service, 2 as that and as the last one), with bit 2 where E is not 0; E has bit 0 where it is a word
+// at an odd address, and bit 1 where it is past the end of memory, and then F is what 4 is, else 0. 0A and 0B follow the bytes of an acknowledge, with the INT of the
+// chip that answers low or high: E says whether that is the slave, C why its INT is low or the level that it gives, D its highest level in service.
 pub fn answered(n: u8, facts: [u8; 16]) -> Text {
     fill(
         b"
@@ -97,12 +100,9 @@ pub fn answered(n: u8, facts: [u8; 16]) -> Text {
 06 nothing: no channel to serve
 07 channel %508 gets the bus; no unit
 08 channel %508 leaves the bus; no unit
-09 channel %508: verified @8{C02|, bus free|, end, bus free}
-0A channel %508: $2 to memory @8{C21|: past the end of memory, lost}{C03|, bus free|, end, bus free|||; bus free|; end, bus free}
-0B channel %508: $2 from memory @8{C21|: past the end of memory, reads FF}{C03|, bus free|, end, bus free|||; bus free|; end, bus free}
-0C channel %508: $2 at @8{C21|: past the end of memory}{C03|, bus free|, end, bus free|||; bus free|; end, bus free}
-0D :{E01| level 7, but the slave's} INT is low, {C02no level asks|every level that asks is masked|level %D08 is in service and not outranked}; answered as {E01|its }level 7
-0E {E01|: level 7, and the slave gives its level %C08}
+09 channel %508: {403verified|$2 to memory|$2 from memory|$2 at|word verified|$2 $D to memory|$2 $D from memory|$2 $D at} @8{E02|: odd, so ~8 and @8|: past the end of memory|: odd, so ~8 and @8; past the end of memory}{F03|, lost|, reads FF|||, both lost|, both read FF|, the upper byte or both}{C03|, bus free|, end, bus free|||; bus free|; end, bus free}
+0A :{E01| level 7, but the slave's} INT is low, {C02no level asks|every level that asks is masked|level %D08 is in service and not outranked}; answered as {E01|its }level 7
+0B {E01|: level 7, and the slave gives its level %C08}
 
 10 reset
 11 write
@@ -128,9 +128,9 @@ pub fn answered(n: u8, facts: [u8; 16]) -> Text {
     )
 }
 
-// Why a record was refused. The facts: 0 to 7 are the record, 8 the status, 9 the DMA channel that has the bus, A whether the count that is written has
-// two bytes. B is what the interrupt chip at fault awaits, C whether that is the slave, F whether the master needs it for an acknowledge. D is how the master is set
-// up, E how the slave is: bit 0 vector mode, bit 1 single.
+// Why a record was refused. The facts: 0 to 7 are the record, 8 the status, 9 the DMA channel that has the bus, or where none has it a bit for each channel in a word
+// mode, A whether the count that is written has two bytes. B is what the interrupt chip at fault awaits, C whether that is the slave, F whether the master needs it for an
+// acknowledge. D is how the master is set up, E how the slave is: bit 0 vector mode, bit 1 single.
 pub fn refused(n: u8, facts: [u8; 16]) -> Text {
     fill(
         b"
@@ -144,7 +144,7 @@ pub fn refused(n: u8, facts: [u8; 16]) -> Text {
 25 2: one advance has at most 65535 pulses
 26 2: bytes 1 to 3 of an advance are zero
 27 2: END, byte 1 of a DMA cycle, is 0 or 1
-28 2: bytes 3 to 7 of a DMA cycle are zero
+28 2: bytes 4 to 7 of a DMA cycle are zero
 29 2: there is no operation $0; they go from 00 to 06
 2A 2: port $1 cannot be {002|written|read}, only written
 2B 2: port $1 cannot be {002|written|read}, only read
@@ -165,12 +165,13 @@ pub fn refused(n: u8, facts: [u8; 16]) -> Text {
 42 4: not built, the exceptional nesting mode
 43 4: not built, the multiple latch; there are counters 0 to 2
 44 4: not built, counting in BCD
-46 4: not built, 16-bit transfers (D1)
+45 4: not built, words on the 8-bit bus; for the 16-bit bus write 02 to port 20 first
+46 4: not built, words on the 8-bit bus; channels in a word mode:*904. Give each a byte mode first, or reset the chip
 47 4: not built, bits of device control other than D4 and D2
 48 4: not built, any bit of device control high; write 00
 49 4: not built, cascade (D7 and D6 set)
 4A 4: not built, direction 11 (D3 and D2 set)
-4B 4: not built, 16-bit units and D0 of a mode
+4B 4: not built, D1 of a mode
 4C 4: not built, registers C, D and E of the DMA chip
 
 60 %808: a count of 1 is not for modes 2 and 3; the least is 2{A01|. The low byte is kept: write the high byte next, or the control word again}
@@ -192,21 +193,22 @@ pub fn bad_line(n: u8, line: u64, column: u64, found: [u8; 8]) -> Text {
 03 :&0:&1: expected the levels, one or two hexadecimal digits
 04 :&0:&1: expected the number of pulses, decimal, at most 65535
 05 :&0:&1: expected the device's byte, one or two hexadecimal digits, or the end of the line
-06 :&0:&1: expected the word end, or the end of the line
-07 :&0:&1: expected one of the eight bytes of a raw record, one or two hexadecimal digits
-08 :&0:&1: expected the end of the line, or a # comment
-09 :&0:&1: expected the end of the line by here: a line has at most 1000 characters
-0A :&0:&1: expected a line feed at the end of the last line; the file may be cut short
+06 :&0:&1: expected the device's upper byte, one or two hexadecimal digits, the word end, or the end of the line
+07 :&0:&1: expected the word end, or the end of the line
+08 :&0:&1: expected one of the eight bytes of a raw record, one or two hexadecimal digits
+09 :&0:&1: expected the end of the line, or a # comment
+0A :&0:&1: expected the end of the line by here: a line has at most 1000 characters
+0B :&0:&1: expected a line feed at the end of the last line; the file may be cut short
 
-0B :&0:&1: a byte order mark ($0 $1 $2), which is not seen; save the file as UTF-8 without one
-0C :&0:&1: $0 $1, the mark of a UTF-16 file; save the file as UTF-8 or as plain text
-0D :&0:&1: a no-break space ($0 $1), which looks like a space; type a space in its place
-0E :&0:&1: a soft hyphen ($0 $1), which is not seen; delete it
-0F :&0:&1: an unusual space, or a mark that is not seen ($0 $1 $2); delete it, or type a space in its place
-10 :&0:&1: a control character, number $0, which is not seen; delete it
-11 :&0:&1: a carriage return that no line feed follows; end each line with a line feed, or with both
-12 :&0:&1: the byte $0, which is no plain ASCII character; it may look like a letter or a digit and be none: type it anew
-13 :&0:&1: no line feed up to here; the rest was not read
+0C :&0:&1: a byte order mark ($0 $1 $2), which is not seen; save the file as UTF-8 without one
+0D :&0:&1: $0 $1, the mark of a UTF-16 file; save the file as UTF-8 or as plain text
+0E :&0:&1: a no-break space ($0 $1), which looks like a space; type a space in its place
+0F :&0:&1: a soft hyphen ($0 $1), which is not seen; delete it
+10 :&0:&1: an unusual space, or a mark that is not seen ($0 $1 $2); delete it, or type a space in its place
+11 :&0:&1: a control character, number $0, which is not seen; delete it
+12 :&0:&1: a carriage return that no line feed follows; end each line with a line feed, or with both
+13 :&0:&1: the byte $0, which is no plain ASCII character; it may look like a letter or a digit and be none: type it anew
+14 :&0:&1: no line feed up to here; the rest was not read
 ",
         n,
         facts(found, 0, 0, 0, 0),
@@ -407,6 +409,7 @@ impl Filling {
         match mark {
             b'$' => Filling::passing(t.hex(fact(facts, d)), 0),
             b'@' => Filling::passing(t.address(four(facts, d)), 0),
+            b'~' => Filling::passing(t.address(four(facts, d) / 2 * 2), 0),
             b'=' => Filling::passing(t.decimal(four(facts, d) as u64), 0),
             b'&' => Filling::passing(t.decimal(either(d, first, second)), 0),
             _ => fill_field(t, mark, field(fact(facts, self.place), self.from, d)),
@@ -428,6 +431,7 @@ fn digits(c: u8) -> u8 {
         b'$' => 1,
         b'=' => 1,
         b'@' => 1,
+        b'~' => 1,
         b'&' => 1,
         b'%' => 3,
         b'*' => 3,

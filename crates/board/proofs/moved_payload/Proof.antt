@@ -18,17 +18,17 @@ flag-requires-2 c κs = search needs
 flag-requires-3 : tie.Need-flag-requires-3
 flag-requires-3 c κs = search needs
 
-array-read-t13 : tie.Need-array-read-t13
-array-read-t13 c = search needs
+array-read-t14 : tie.Need-array-read-t14
+array-read-t14 c = search needs
 
-array-read-t16 : tie.Need-array-read-t16
-array-read-t16 c = search needs
+array-read-t17 : tie.Need-array-read-t17
+array-read-t17 c = search needs
 
-array-read-t19 : tie.Need-array-read-t19
-array-read-t19 c = search needs
+array-read-t20 : tie.Need-array-read-t20
+array-read-t20 c = search needs
 
-array-read-t22 : tie.Need-array-read-t22
-array-read-t22 c = search needs
+array-read-t23 : tie.Need-array-read-t23
+array-read-t23 c = search needs
 
 returns : tie.Need-returns
 returns c = rw (c .flag3 .ensures, c .before .flag2 .ensures, c .before .before .flag .ensures, c .before .before .before .little .ensures)
@@ -41,8 +41,8 @@ moved-payload-spec =
     flag-requires
     flag-requires-2
     flag-requires-3
-    array-read-t13
-    array-read-t16
-    array-read-t19
-    array-read-t22
+    array-read-t14
+    array-read-t17
+    array-read-t20
+    array-read-t23
     returns)

@@ -4,22 +4,26 @@ use Rattle.dma.proofs.next_address.Statement.{statement}
 use Rattle.dma.proofs.next_address.Tie as tie
 use Rattle.dma.proofs.next_address.Reads as reads
 use Rattle.dma.proofs.next_address.Lts as lts
+use Rattle.dma.proofs.size.Reads as size-reads
 
--- src/lib.rt:186:17
+size-requires : tie.Need-size-requires
+size-requires c κs = search needs
+
 add-result : tie.Need-add-result
 add-result c = search needs
 
--- src/lib.rt:186:9
-returns : tie.Need-returns
-returns c = rw (fall, c .if1 .taken)
+sub-result : tie.Need-sub-result
+sub-result c = search needs
 
--- src/lib.rt:188:6
+returns : tie.Need-returns
+returns c = rw (fall _ _ (c .before .size .ensures .1), c .if1 .taken, c .before .size .ensures .0)
+
 add-result-2 : tie.Need-add-result-2
 add-result-2 c = search needs
 
--- src/lib.rt:182:1
 returns-2 : tie.Need-returns-2
-returns-2 c = rw (up, c .if1 .left)
+returns-2 c = rw (up, c .if1 .left, c .before .size .ensures .0)
 
 pub next-address-spec : {M : Type 1} → statement M
-next-address-spec = tie.close (tie.spec add-result returns add-result-2 returns-2)
+next-address-spec =
+    tie.close (tie.spec size-requires add-result sub-result returns add-result-2 returns-2)

@@ -739,8 +739,8 @@ transfer-requires c κs = search needs
 advance-requires : tie.Need-advance-requires Inv-loop μ-loop
 advance-requires c κs = search needs
 
-mul-t223 : tie.Need-mul-t223 Inv-loop μ-loop
-mul-t223 c = search needs
+mul-t224 : tie.Need-mul-t224 Inv-loop μ-loop
+mul-t224 c = search needs
 
 element-set-from-dma : tie.Need-element-set-from-dma Inv-loop μ-loop
 element-set-from-dma c = search needs
@@ -765,9 +765,9 @@ loop-again-23 c =
     let q = c .before .before .before .before .before .before .before .before .before .before .before .before .before .before .before .before .before .before .before .before .before .before .record-at in
     let n : Board = record { icu = l .icu; intp = l .intp; slave = l .slave; slaveintp = l .slaveintp; timer = l .timer; dma = l .dma; kept = a .self .kept } in
     round (a .self) (a .memory .now) (take (a .size) (a .kept) ++ a .tape .now)
-    (omega (arith, c .before .before .before .before .before .before .before .before .before .before .before .before .before .before .before .before .before .before .before .before .before .before .before .loop-test .taken)) (c .before .before .before .before .before .before .before .before .transfer .kept .1 .1 .0 ∙ l .inv .1) (p .kept .0 ∙ l .inv .2)
-    (l .i) n _ (l .memory) (q .result) (c .before .before .before .before .before .before .before .before .transfer .last .1 .1 .0) (l .answers) (p .last .0) (a .answers .now) _ _ _
-    (l .inv .3) (l .inv .4) (l .inv .5) (q .ensures) (plain-unit n (q .result) (l .memory) (l .joined) (l .inv .6) (l .levels) (l .inv .7) _ (sym (c .before .before .before .before .before .before .before .before .before .before .before .before .before .before .before .before .before .before .before .before .before .decode .ensures) ∙ c .before .before .before .before .before .before .before .before .before .before .before .before .before .before .before .before .before .before .before .d .given .1) (sym (c .before .before .before .before .before .before .before .before .before .before .before .before .before .before .before .before .before .is-blocked .ensures) ∙ c .before .before .before .before .before .before .before .before .before .before .before .before .before .before .before .before .if1 .left) _ _ (c .before .before .before .before .before .before .before .before .before .before .before .before .before .before .o8 .given .1) (sym (c .before .before .before .before .before .before .before .before .before .before .before .is-plain .ensures) ∙ c .before .before .before .before .before .before .before .before .before .before .if13 .taken) _ _ _ _ (c .before .before .before .before .before .advance .ensures) (c .before .before .before .before .before .before .before .before .transfer .ensures .1) (c .before .before .before .before .before .before .before .before .transfer .ensures .0) (c .before .before .before .before .moved-payload .ensures)) (p .ensures)
+    (omega (arith, c .before .before .before .before .before .before .before .before .before .before .before .before .before .before .before .before .before .before .before .before .before .before .before .loop-test .taken)) (c .before .before .before .before .before .before .before .before .transfer .kept .1 .1 .1 .0 ∙ l .inv .1) (p .kept .0 ∙ l .inv .2)
+    (l .i) n _ (l .memory) (q .result) (c .before .before .before .before .before .before .before .before .transfer .last .1 .1 .1 .0) (l .answers) (p .last .0) (a .answers .now) _ _ _
+    (l .inv .3) (l .inv .4) (l .inv .5) (q .ensures) (plain-unit n (q .result) (l .memory) (l .joined) (l .inv .6) (l .levels) (l .inv .7) _ (sym (c .before .before .before .before .before .before .before .before .before .before .before .before .before .before .before .before .before .before .before .before .before .decode .ensures) ∙ c .before .before .before .before .before .before .before .before .before .before .before .before .before .before .before .before .before .before .before .d .given .1) (sym (c .before .before .before .before .before .before .before .before .before .before .before .before .before .before .before .before .before .is-blocked .ensures) ∙ c .before .before .before .before .before .before .before .before .before .before .before .before .before .before .before .before .if1 .left) _ _ _ (c .before .before .before .before .before .before .before .before .before .before .before .before .before .before .o8 .given .1) (sym (c .before .before .before .before .before .before .before .before .before .before .before .is-plain .ensures) ∙ c .before .before .before .before .before .before .before .before .before .before .if13 .taken) _ _ _ _ (c .before .before .before .before .before .advance .ensures) (c .before .before .before .before .before .before .before .before .transfer .ensures .1) (c .before .before .before .before .before .before .before .before .transfer .ensures .0) (c .before .before .before .before .moved-payload .ensures)) (p .ensures)
 
 cycle-requires : tie.Need-cycle-requires Inv-loop μ-loop
 cycle-requires c κs = search needs
@@ -795,9 +795,9 @@ loop-again-24 c =
     let q = c .before .before .before .before .before .before .before .before .before .before .before .before .before .before .before .before .before .before .before .before .before .before .before .record-at in
     let n : Board = record { icu = l .icu; intp = l .intp; slave = l .slave; slaveintp = l .slaveintp; timer = l .timer; dma = l .dma; kept = a .self .kept } in
     round (a .self) (a .memory .now) (take (a .size) (a .kept) ++ a .tape .now)
-    (omega (arith, c .before .before .before .before .before .before .before .before .before .before .before .before .before .before .before .before .before .before .before .before .before .before .before .before .loop-test .taken)) (c .before .before .before .before .before .before .before .before .before .cycle .kept .1 .1 .1 .0 ∙ l .inv .1) (p .kept .0 ∙ l .inv .2)
-    (l .i) n _ (l .memory) (q .result) (c .before .before .before .before .before .before .before .before .before .cycle .last .1 .1 .1 .0) (l .answers) (p .last .0) (a .answers .now) _ _ _
-    (l .inv .3) (l .inv .4) (l .inv .5) (q .ensures) (cycle-by-call n (q .result) (l .memory) (l .joined) (l .inv .6) (l .levels) (l .inv .7) _ (sym (c .before .before .before .before .before .before .before .before .before .before .before .before .before .before .before .before .before .before .before .before .before .before .decode .ensures) ∙ c .before .before .before .before .before .before .before .before .before .before .before .before .before .before .before .before .before .before .before .before .d .given .1) (sym (c .before .before .before .before .before .before .before .before .before .before .before .before .before .before .before .before .before .before .is-blocked .ensures) ∙ c .before .before .before .before .before .before .before .before .before .before .before .before .before .before .before .before .before .if1 .left) _ _ (c .before .before .before .before .before .before .before .before .before .before .before .before .before .before .before .o8 .given .1) _ (c .before .before .before .before .before .before .before .before .before .cycle .result .report) _ _ _ (c .before .before .before .before .before .before .before .before .before .cycle .ensures .0) (c .before .before .before .before .before .before .before .before .before .cycle .ensures .1 .0) (c .before .before .before .before .before .before .before .before .before .cycle .ensures .1 .1) (c .before .before .before .before .byte-moved .ensures) (c .before .before .before .payload .ensures)) (p .ensures)
+    (omega (arith, c .before .before .before .before .before .before .before .before .before .before .before .before .before .before .before .before .before .before .before .before .before .before .before .before .loop-test .taken)) (c .before .before .before .before .before .before .before .before .before .cycle .kept .1 .1 .1 .1 .0 ∙ l .inv .1) (p .kept .0 ∙ l .inv .2)
+    (l .i) n _ (l .memory) (q .result) (c .before .before .before .before .before .before .before .before .before .cycle .last .1 .1 .1 .1 .0) (l .answers) (p .last .0) (a .answers .now) _ _ _
+    (l .inv .3) (l .inv .4) (l .inv .5) (q .ensures) (cycle-by-call n (q .result) (l .memory) (l .joined) (l .inv .6) (l .levels) (l .inv .7) _ (sym (c .before .before .before .before .before .before .before .before .before .before .before .before .before .before .before .before .before .before .before .before .before .before .decode .ensures) ∙ c .before .before .before .before .before .before .before .before .before .before .before .before .before .before .before .before .before .before .before .before .d .given .1) (sym (c .before .before .before .before .before .before .before .before .before .before .before .before .before .before .before .before .before .before .is-blocked .ensures) ∙ c .before .before .before .before .before .before .before .before .before .before .before .before .before .before .before .before .before .if1 .left) _ _ _ (c .before .before .before .before .before .before .before .before .before .before .before .before .before .before .before .o8 .given .1) _ (c .before .before .before .before .before .before .before .before .before .cycle .result .report) _ _ _ (c .before .before .before .before .before .before .before .before .before .cycle .ensures .0) (c .before .before .before .before .before .before .before .before .before .cycle .ensures .1 .0) (c .before .before .before .before .before .before .before .before .before .cycle .ensures .1 .1) (c .before .before .before .before .byte-moved .ensures) (c .before .before .before .payload .ensures)) (p .ensures)
 
 same-length : tie.Need-same-length Inv-loop μ-loop
 same-length c = c .before .loop .inv .1
@@ -814,4 +814,4 @@ returns c =
     in (rw (← e) (l .inv .3), (rw (← e) (l .inv .4), rw (← e) (l .inv .5)))
 
 pub run-spec : {M : Type 1} → statement M
-run-spec = tie.close (tie.spec Inv-loop μ-loop count-bytes-requires least-requires levels-requires join-requires loop-holds record-at-requires array-read-op decode-requires enum-known-d enum-told tell-requires add-i loop-less loop-again is-blocked-requires tell-requires-2 add-i-2 loop-less-2 loop-again-2 enum-told-2 reset-requires reset-requires-2 reset-requires-3 reset-requires-4 tell-requires-3 add-i-3 loop-less-3 loop-again-3 enum-known-o write-icu-requires levels-at-requires tell-requires-4 add-i-4 loop-less-4 loop-again-4 write-requires rewire-requires tell-requires-5 add-i-5 loop-less-5 loop-again-5 tell-requires-6 add-i-6 loop-less-6 loop-again-6 write-requires-2 tell-requires-7 add-i-7 loop-less-7 loop-again-7 tell-requires-8 add-i-8 loop-less-8 loop-again-8 write-icu-requires-2 join-requires-2 rewire-requires-2 tell-requires-9 add-i-9 loop-less-9 loop-again-9 tell-requires-10 add-i-10 loop-less-10 loop-again-10 enum-known-o-2 lines-at-requires read-icu-requires tell-requires-11 add-i-11 loop-less-11 loop-again-11 cast-n mul-c element-copy-out-c look-requires mul-c-2 element-set-from-c tell-requires-12 add-i-12 loop-less-12 loop-again-12 look-requires-2 tell-requires-13 add-i-13 loop-less-13 loop-again-13 read-icu-requires-2 tell-requires-14 add-i-14 loop-less-14 loop-again-14 enum-known-o-3 join-requires-3 rewire-requires-3 tell-requires-15 add-i-15 loop-less-15 loop-again-15 enum-known-o-4 set-gates-requires rewire-requires-4 tell-requires-16 add-i-16 loop-less-16 loop-again-16 enum-known-o-5 set-requests-requires tell-requires-17 add-i-17 loop-less-17 loop-again-17 enum-known-o-6 lines-requires join-requires-4 rewire-requires-5 tell-requires-18 add-i-18 loop-less-18 loop-again-18 enum-told-3 lines-at-requires-2 is-passed-on-requires acknowledge-requires join-requires-5 serve-requires rewire-requires-6 tell-requires-19 add-i-19 loop-less-19 loop-again-19 is-answered-requires acknowledge-requires-2 levels-at-requires-2 tell-requires-20 add-i-20 loop-less-20 loop-again-20 tell-requires-21 add-i-21 loop-less-21 loop-again-21 enum-known-o-7 run-pulses-requires levels-at-requires-3 rises-payload-requires tell-requires-22 add-i-22 loop-less-22 loop-again-22 enum-known-o-8 cast-at mul-c-3 element-copy-out-c-2 is-plain-requires transfer-requires advance-requires mul-t223 element-set-from-dma moved-payload-requires tell-requires-23 add-i-23 loop-less-23 loop-again-23 cycle-requires byte-moved-requires payload-requires tell-requires-24 add-i-24 loop-less-24 loop-again-24 same-length same-length-2 returns)
+run-spec = tie.close (tie.spec Inv-loop μ-loop count-bytes-requires least-requires levels-requires join-requires loop-holds record-at-requires array-read-op decode-requires enum-known-d enum-told tell-requires add-i loop-less loop-again is-blocked-requires tell-requires-2 add-i-2 loop-less-2 loop-again-2 enum-told-2 reset-requires reset-requires-2 reset-requires-3 reset-requires-4 tell-requires-3 add-i-3 loop-less-3 loop-again-3 enum-known-o write-icu-requires levels-at-requires tell-requires-4 add-i-4 loop-less-4 loop-again-4 write-requires rewire-requires tell-requires-5 add-i-5 loop-less-5 loop-again-5 tell-requires-6 add-i-6 loop-less-6 loop-again-6 write-requires-2 tell-requires-7 add-i-7 loop-less-7 loop-again-7 tell-requires-8 add-i-8 loop-less-8 loop-again-8 write-icu-requires-2 join-requires-2 rewire-requires-2 tell-requires-9 add-i-9 loop-less-9 loop-again-9 tell-requires-10 add-i-10 loop-less-10 loop-again-10 enum-known-o-2 lines-at-requires read-icu-requires tell-requires-11 add-i-11 loop-less-11 loop-again-11 cast-n mul-c element-copy-out-c look-requires mul-c-2 element-set-from-c tell-requires-12 add-i-12 loop-less-12 loop-again-12 look-requires-2 tell-requires-13 add-i-13 loop-less-13 loop-again-13 read-icu-requires-2 tell-requires-14 add-i-14 loop-less-14 loop-again-14 enum-known-o-3 join-requires-3 rewire-requires-3 tell-requires-15 add-i-15 loop-less-15 loop-again-15 enum-known-o-4 set-gates-requires rewire-requires-4 tell-requires-16 add-i-16 loop-less-16 loop-again-16 enum-known-o-5 set-requests-requires tell-requires-17 add-i-17 loop-less-17 loop-again-17 enum-known-o-6 lines-requires join-requires-4 rewire-requires-5 tell-requires-18 add-i-18 loop-less-18 loop-again-18 enum-told-3 lines-at-requires-2 is-passed-on-requires acknowledge-requires join-requires-5 serve-requires rewire-requires-6 tell-requires-19 add-i-19 loop-less-19 loop-again-19 is-answered-requires acknowledge-requires-2 levels-at-requires-2 tell-requires-20 add-i-20 loop-less-20 loop-again-20 tell-requires-21 add-i-21 loop-less-21 loop-again-21 enum-known-o-7 run-pulses-requires levels-at-requires-3 rises-payload-requires tell-requires-22 add-i-22 loop-less-22 loop-again-22 enum-known-o-8 cast-at mul-c-3 element-copy-out-c-2 is-plain-requires transfer-requires advance-requires mul-t224 element-set-from-dma moved-payload-requires tell-requires-23 add-i-23 loop-less-23 loop-again-23 cycle-requires byte-moved-requires payload-requires tell-requires-24 add-i-24 loop-less-24 loop-again-24 same-length same-length-2 returns)

@@ -6,7 +6,7 @@ use Rattle.rival.proofs.counts.count_answers.Tie as tie
 use Rattle.rival.proofs.counts.count_answers.Reads as reads
 use Rattle.rival.proofs.counts.count_answers.Lts as lts
 use Rattle.rival.proofs.counts.count_answer.Reads as count-answer-reads
-use Rattle.rival.proofs.counts.count_reset.Reads as count-reset-reads
+use Rattle.rival.proofs.counts.count_write.Reads as count-write-reads
 
 abbrev Inv-loop : tie.InvT-loop
 Inv-loop tape answers next₀ i₀ next i = i ≤ 64
@@ -23,47 +23,41 @@ mul-place c = search needs
 mul-at : tie.Need-mul-at Inv-loop μ-loop
 mul-at c = search needs
 
-element-copy-out-count-answer : tie.Need-element-copy-out-count-answer Inv-loop μ-loop
-element-copy-out-count-answer c = search needs
+element-copy-out-status : tie.Need-element-copy-out-status Inv-loop μ-loop
+element-copy-out-status c = search needs
 
 add-count-answer : tie.Need-add-count-answer Inv-loop μ-loop
 add-count-answer c = search needs
 
-element-copy-out-count-answer-2 : tie.Need-element-copy-out-count-answer-2 Inv-loop μ-loop
-element-copy-out-count-answer-2 c = search needs
+element-copy-out-count-answer : tie.Need-element-copy-out-count-answer Inv-loop μ-loop
+element-copy-out-count-answer c = search needs
 
 add-count-answer-2 : tie.Need-add-count-answer-2 Inv-loop μ-loop
 add-count-answer-2 c = search needs
 
-element-copy-out-count-answer-3 : tie.Need-element-copy-out-count-answer-3 Inv-loop μ-loop
-element-copy-out-count-answer-3 c = search needs
+element-copy-out-count-answer-2 : tie.Need-element-copy-out-count-answer-2 Inv-loop μ-loop
+element-copy-out-count-answer-2 c = search needs
 
 count-answer-requires : tie.Need-count-answer-requires Inv-loop μ-loop
 count-answer-requires c κs = search needs
 
-element-copy-out-count-reset : tie.Need-element-copy-out-count-reset Inv-loop μ-loop
-element-copy-out-count-reset c = search needs
+element-copy-out-if1 : tie.Need-element-copy-out-if1 Inv-loop μ-loop
+element-copy-out-if1 c = search needs
 
-add-count-reset : tie.Need-add-count-reset Inv-loop μ-loop
-add-count-reset c = search needs
+add-count-write : tie.Need-add-count-write Inv-loop μ-loop
+add-count-write c = search needs
 
-element-copy-out-count-reset-2 : tie.Need-element-copy-out-count-reset-2 Inv-loop μ-loop
-element-copy-out-count-reset-2 c = search needs
+element-copy-out-count-write : tie.Need-element-copy-out-count-write Inv-loop μ-loop
+element-copy-out-count-write c = search needs
 
-add-count-reset-2 : tie.Need-add-count-reset-2 Inv-loop μ-loop
-add-count-reset-2 c = search needs
+add-count-write-2 : tie.Need-add-count-write-2 Inv-loop μ-loop
+add-count-write-2 c = search needs
 
-element-copy-out-count-reset-3 : tie.Need-element-copy-out-count-reset-3 Inv-loop μ-loop
-element-copy-out-count-reset-3 c = search needs
+element-copy-out-count-write-2 : tie.Need-element-copy-out-count-write-2 Inv-loop μ-loop
+element-copy-out-count-write-2 c = search needs
 
-add-count-reset-3 : tie.Need-add-count-reset-3 Inv-loop μ-loop
-add-count-reset-3 c = search needs
-
-element-copy-out-count-reset-4 : tie.Need-element-copy-out-count-reset-4 Inv-loop μ-loop
-element-copy-out-count-reset-4 c = search needs
-
-count-reset-requires : tie.Need-count-reset-requires Inv-loop μ-loop
-count-reset-requires c κs = search needs
+count-write-requires : tie.Need-count-write-requires Inv-loop μ-loop
+count-write-requires c κs = search needs
 
 add-i : tie.Need-add-i Inv-loop μ-loop
 add-i c = search needs
@@ -86,20 +80,18 @@ count-answers-spec =
     loop-holds
     mul-place
     mul-at
-    element-copy-out-count-answer
+    element-copy-out-status
     add-count-answer
-    element-copy-out-count-answer-2
+    element-copy-out-count-answer
     add-count-answer-2
-    element-copy-out-count-answer-3
+    element-copy-out-count-answer-2
     count-answer-requires
-    element-copy-out-count-reset
-    add-count-reset
-    element-copy-out-count-reset-2
-    add-count-reset-2
-    element-copy-out-count-reset-3
-    add-count-reset-3
-    element-copy-out-count-reset-4
-    count-reset-requires
+    element-copy-out-if1
+    add-count-write
+    element-copy-out-count-write
+    add-count-write-2
+    element-copy-out-count-write-2
+    count-write-requires
     add-i
     loop-less
     loop-again
