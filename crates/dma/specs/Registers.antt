@@ -1,5 +1,5 @@
 -- The registers, by their number A3-A0: what a write does, and what a read shows. Status 0 is done, 2 where the register is
--- not open to it, 4 where it asks for what is not built; 2 and 4 change nothing.
+-- not open to it, 4 where it asks for what is not built, or for words on the 8-bit bus; 2 and 4 change nothing.
 use Prim.Native.Nat.{ℕ, _+_, _*_, _/_, _%_}
 use mathlib.Core.List.{[], _∷_}
 use mathlib.Core.Bool.{Bool, true, false, not}
@@ -131,7 +131,7 @@ maskedBy d x =
 -- The registers, with the status where it is not 0:
 --
 --        written                          read
---   0    initialize; 4 if neither bit is set while a channel moves words    2
+--   0    initialize; 4 if it makes the bus narrow under a word mode    2
 --   1    channel and BASE                 channel and BASE
 --   2-3  count, low byte first            count
 --   4-6  address, low byte first          address

@@ -8,7 +8,7 @@ use Rattle.dma.specs.declared.Report.{Report}
 use Rattle.dma.specs.declared.Report.the-variants.{Nothing, Granted, Moved, Released}
 
 -- Kind: 0 nothing, 1 granted, 2 moved, 3 released. Stopped: service stopped. The address is that of the unit, as its channel has it; the byte is the
--- data moved, the upper one that of a word's odd address. Outside: some byte of the unit fell off, so it was written or read at an address outside the lent memory.
+-- data moved, the upper one that of a word's odd address. Outside: some byte of the unit was written or read at an address outside the lent memory, so it fell off.
 pub record Told : Type 0 where
   pub kind : ℕ
   pub channel : ℕ

@@ -9,6 +9,7 @@ pub mod Moves
 pub mod Bus
 pub mod Bytes
 pub mod Ranges
+pub mod Touched
 pub mod Steps
 pub mod Runs
 pub mod Demand3
@@ -51,6 +52,7 @@ pub mod Waves
 pub mod Edges
 pub mod Withdrawn
 pub mod Narrow
+pub mod Widths
 pub mod OneChip
 pub mod SlaveKept
 pub mod Cascade

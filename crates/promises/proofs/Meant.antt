@@ -12,7 +12,8 @@ use Rattle.dma.specs.Cycle.{stepped}
 use Rattle.promises.specs.Words.{channelIn, startOf, movedAt, unitAt, lastAt, placeOf, distance, inside}
 use Rattle.promises.specs.Meant.{Width, byte, word, None, empty, misses, Meant}
 use Rattle.promises.proofs.Logic.{both-left, both-right}
-use Rattle.promises.proofs.Bus.{bus-reset, bus-set, fresh-narrow}
+use Rattle.promises.proofs.Bus.{bus-reset, bus-set, fresh-narrow, mode-set, mode-shown}
+use Rattle.promises.proofs.Widths.{widths-kept}
 use Rattle.promises.proofs.Pairs.{pair-up, pair-down, apart, on-up, on-down, same-up, same-down}
 use Rattle.promises.proofs.Requested.{int-rule}
 use Rattle.promises.proofs.Taken.{level-taken, spurious, channel-granted, nothing-granted, reset-is-fresh}
@@ -127,5 +128,8 @@ meant =
       bus-reset = bus-reset;
       bus-set = bus-set;
       fresh-narrow = fresh-narrow;
+      mode-set = mode-set;
+      mode-shown = mode-shown;
+      widths-kept = widths-kept;
       reset-is-fresh = reset-is-fresh;
     }

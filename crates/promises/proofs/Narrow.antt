@@ -1,34 +1,25 @@
 -- On the 8-bit bus no channel of a reached board is set to move words.
-use mathlib.Core.Path.{_≡_, refl, sym, ap, _∙_}
+use mathlib.Core.Path.{_≡_, refl, ap, _∙_}
 use mathlib.Core.List.{List, [], _∷_}
 use mathlib.Core.Bool.{Bool, true, false, not, true≢false}
-use Prim.Native.Nat.{ℕ, zero, suc, _/_, _%_}
+use Prim.Native.Nat.{ℕ, zero, suc, _%_}
 use native.Mathlib.Omega.{arith}
 use lib.Dec.{eqb, ltb, leb}
 use lib.ListN.{getD, List·getD-eq-default}
-use Rattle.bits.specs.Choice.{if_then_else_, _and_, _or_}
+use Rattle.bits.specs.Choice.{_and_, _or_}
 use Rattle.bits.specs.Bits.{bitOf, maskedOf}
 use Rattle.tape.specs.declared.Operation.{Operation}
 use Rattle.tape.specs.declared.Operation.the-variants.{Reset, Write, Read, Intp, Gates, Requests, SlaveIntp, Acknowledge, Advance, Cycle}
-use Rattle.tape.specs.declared.Decoded.{Decoded}
-use Rattle.tape.specs.declared.Decoded.the-variants.{Asked, Malformed}
-use Rattle.tape.specs.Records.{decodeOf}
-use Rattle.icu.specs.Words as IcuWords
-use Rattle.cascade.specs.Cascade.{slaveIw3, answered, passedOn}
-use Rattle.timer.specs.Timer.{writesOf, readsOf}
 use Rattle.dma.specs.declared.Channel.{Channel}
 use Rattle.dma.specs.declared.Dma.{Dma}
 use Rattle.dma.specs.declared.Written.{Written}
 use Rattle.dma.specs.declared.Got.{Got}
-use Rattle.dma.specs.Fields.{none, chan, selected, served, word, masked-is, wide-is}
+use Rattle.dma.specs.Fields.{none, chan, selected, served, word, wide-is}
 use Rattle.dma.specs.Registers.{chosen, resetOf, requestedOf, anyWords, unbuiltMode, refusesMode, initializedOf, selectedOf, loadedOf, controlledOf, modedOf, maskedBy, writeOf, readOf}
 use Rattle.dma.specs.Cycle.{movedOf, winner, lastOf, releases, nothingOf, grantedOf, releasedOf, unitOf, cycleBy, cycleOf}
 use Rattle.board.specs.declared.Board.{Board}
-use Rattle.board.specs.Wiring.{freshOf, lines}
-use Rattle.board.specs.Operations as Operations
-use Rattle.board.specs.Operations.{Outcome, a0, timerWritten, timerShown, dmaWritten, dmaShown, slaveWritten, slaveShown, slaveGives, acknowledgeOf}
-use Rattle.board.specs.Advance.{advanceOf}
-use Rattle.board.specs.Step.{executeOf, blocked, outcomeOf, answeredOf, stepOf}
+use Rattle.board.specs.Wiring.{freshOf}
+use Rattle.board.specs.Step.{stepOf}
 use Rattle.board.specs.Records.{recordAt, after}
 use Rattle.intake.specs.declared.Fed.{Fed}
 use Rattle.intake.specs.Feed.{bytesOf, countOf, taken, fedOf}
@@ -37,6 +28,7 @@ use Rattle.promises.specs.Reached.{Reached, unfed, fed}
 use Rattle.promises.proofs.Lists.{put}
 use Rattle.promises.proofs.Sound.{Sound}
 use Rattle.promises.proofs.Change.{moved-mode}
+use Rattle.promises.proofs.Touched.{On, touched-by}
 use Rattle.promises.proofs.Runs.{sound, reached-sound}
 
 abbrev Bytewise : Channel → Type 0
@@ -158,44 +150,21 @@ module _ (d : Dma) (s : Sound d) (f : Fits d) where
       n = r % 16
 
 -- One record, any run of records, any call.
-module _ (b : Board) (m : List ℕ) (s : Sound (b .dma)) (f : Fits (b .dma)) where
-  abbrev Kept : Outcome → Type 0
-  Kept o = Fits (o .board .dma)
-
-  execute-fits : (o : Operation) → Kept (executeOf b o m)
-  unfolding executeOf Operations.writeOf Operations.readOf timerWritten timerShown dmaWritten dmaShown slaveWritten slaveShown slaveGives acknowledgeOf advanceOf Operations.cycleOf requestedOf
-  execute-fits Reset = λ _. reset-bytewise
-  execute-fits (Write p x) =
-      either Kept (eqb (p / 16) 0) (λ _. f)
-      (λ _. either Kept (eqb (p / 16) 1)
-      (λ _. either Kept (eqb (writesOf (b .timer) p x .status) 0) (λ _. f) (λ _. f))
-      (λ _. either Kept (eqb (p / 16) 2)
-      (λ _. either Kept (eqb (writeOf (b .dma) p x .status) 0) (λ _. write-fits (b .dma) s f p x) (λ _. f))
-      (λ _. either Kept (eqb (IcuWords.writeOf (b .slave) slaveIw3 (a0 p) x .status) 0) (λ _. f) (λ _. f))))
-  execute-fits (Read p) =
-      either Kept (eqb (p / 16) 0) (λ _. f)
-      (λ _. either Kept (eqb (p / 16) 1)
-      (λ _. either Kept (eqb (readsOf (b .timer) p .status) 0) (λ _. f) (λ _. f))
-      (λ _. either Kept (eqb (p / 16) 2)
-      (λ _. either Kept (eqb (readOf (b .dma) p .status) 0) (λ _. read-fits (b .dma) s f p) (λ _. f))
-      (λ _. f)))
-  execute-fits (Intp l) = f
-  execute-fits (Gates l) = f
-  execute-fits (Requests l) = f
-  execute-fits (SlaveIntp l) = f
-  execute-fits Acknowledge =
-      either Kept (passedOn (b .icu) (lines b) (b .slave)) (λ _. f) (λ _. either Kept (answered (b .icu) (b .slave)) (λ _. f) (λ _. f))
-  execute-fits (Advance n) = f
-  execute-fits (Cycle e x y) = cycle-fits (b .dma) s f e x y m
-
-  outcome-fits : (x : Decoded) → Kept (outcomeOf b x m)
-  unfolding outcomeOf
-  outcome-fits Malformed = f
-  outcome-fits (Asked o) = either Kept (blocked b o) (λ _. f) (λ _. execute-fits o)
-
-  step-fits : (r : List ℕ) → Fits (stepOf b r m .board .dma)
-  unfolding stepOf answeredOf
-  step-fits r = outcome-fits (decodeOf r)
+step-fits : (b : Board) (m : List ℕ) → Sound (b .dma) → Fits (b .dma) → (r : List ℕ) → Fits (stepOf b r m .board .dma)
+unfolding requestedOf
+step-fits b m s f = touched-by Fits b m f at
+  where
+    at : (o : Operation) → On Fits (b .dma) m o
+    at Reset = λ _. reset-bytewise
+    at (Write p x) = λ _. write-fits (b .dma) s f p x
+    at (Read p) = read-fits (b .dma) s f p
+    at (Intp l) = tt
+    at (Gates l) = tt
+    at (Requests l) = f
+    at (SlaveIntp l) = tt
+    at Acknowledge = tt
+    at (Advance n) = tt
+    at (Cycle e x y) = cycle-fits (b .dma) s f e x y m
 
 run-fits : (b : Board) (m t : List ℕ) (n : ℕ) → Sound (b .dma) → Fits (b .dma) → Fits (after b m t n .board .dma)
 unfolding after

@@ -1,15 +1,16 @@
--- Bytes 12 and 13 of an answer tell what they should.
+-- The answer of a unit tells what it should, and its channel stands where it should after it.
 use mathlib.Core.Path.{_≡_, refl, sym, ap, ap₂, subst, _∙_}
 use mathlib.Core.List.{List}
 use mathlib.Core.Logic.{_≢_}
 use mathlib.Core.Bool.{Bool, true, false, not, true≢false, false≢true}
-use Prim.Native.Nat.{ℕ, zero, suc, _+_, _*_, _/_, _%_, _≤_, _<_}
+use Prim.Native.Nat.{ℕ, zero, suc, _+_, _/_, _%_, _≤_, _<_}
 use native.Mathlib.Omega.{arith}
 use lib.Dec.{eqb, ltb}
 use lib.ListN.{getD, length}
+use lib.Seq.{getD-set-same, getD-set-other}
 use borrow.Author.Tests.{eq-eqb, eqb-true, eqb-false, ne-eqb, ltb-true, ltb-false, lt-ltb, le-ltb}
 use Rattle.bits.specs.Choice.{if_then_else_, _and_, _or_}
-use Rattle.bits.specs.Bits.{bitOf}
+use Rattle.bits.specs.Bits.{bitOf, less}
 use Rattle.tape.specs.declared.Operation.the-variants.{Cycle}
 use Rattle.tape.specs.declared.Decoded.{Decoded}
 use Rattle.tape.specs.Records.{byte, decodeOf}
@@ -17,9 +18,9 @@ use Rattle.tape.specs.Answers.{answerOf}
 use Rattle.tape.proofs.Decodes.{Decodes, malformed, reset, write, read, intp, gates, requests, slave-intp, acknowledge, advance, cycle, decodes}
 use Rattle.dma.specs.declared.Channel.{Channel}
 use Rattle.dma.specs.declared.Dma.{Dma}
-use Rattle.dma.specs.Fields.{chan, served, word}
+use Rattle.dma.specs.Fields.{none, span, chan, served, word}
 use Rattle.dma.specs.Registers.{unbuiltMode}
-use Rattle.dma.specs.Cycle.{writes, reads, inMemory, sizeOf, startOf, width, place, hasByte, byteOf, memoryOf, offAt, outsideOf, winner, releases, nothingOf, grantedOf, releasedOf, unitOf, cycleBy}
+use Rattle.dma.specs.Cycle.{down, auto, writes, reads, inMemory, sizeOf, startOf, width, place, hasByte, byteOf, memoryOf, offAt, outsideOf, stepped, lastOf, movedBy, movedOf, winner, releases, nothingOf, grantedOf, releasedOf, unitOf, cycleBy}
 use Rattle.dma.specs.Cycle as DmaCycle
 use Rattle.dma.proofs.Units.{untouched}
 use Rattle.board.specs.declared.Board.{Board}
@@ -27,7 +28,7 @@ use Rattle.board.specs.Operations.{Outcome, refused, flagOf, cycleOf, cycleMemo
 use Rattle.board.specs.Wiring.{levelsOf}
 use Rattle.board.specs.Step as Step
 use Rattle.board.specs.Step.{executeOf, memoryAfter, blocked, outcomeOf, answeredOf, stepOf, stepMemory}
-use Rattle.promises.specs.Words.{reportsUnit, channelIn, addressIn, dataIn, upperIn, fellOffIn}
+use Rattle.promises.specs.Words.{reportsUnit, channelIn, endIn, addressIn, dataIn, upperIn, fellOffIn, placeOf, onward}
 use Rattle.promises.specs.Demand1.{callBytes, recordOf, afterFirst}
 use Rattle.promises.specs.Outside.{Tells, Outside}
 use Rattle.promises.proofs.Sound.{Good, Sound}
@@ -37,8 +38,11 @@ use Rattle.promises.proofs.Runs.{sound, sound-of, reached-sound}
 use Rattle.promises.proofs.Demand1.{demand-1}
 
 -- An answer that reports no unit.
-quiet : {d : Dma} {r m m′ a : List ℕ} → reportsUnit a ≡ false → (getD a 1 0 ≡ 6 → (fellOffIn a ≡ 0) × (upperIn a ≡ 0)) → Tells d r m m′ a
-quiet h z =
+quiet : {d d′ : Dma} {r m m′ a : List ℕ} → reportsUnit a ≡ false
+    → (getD a 1 0 ≡ 6 → (dataIn a ≡ 0) × (addressIn a ≡ 0) × (fellOffIn a ≡ 0) × (upperIn a ≡ 0))
+    → (getD a 1 0 ≡ 6 → (getD a 14 0 ≡ 0) × (getD a 15 0 ≡ 0))
+    → Tells d d′ r m m′ a
+quiet h z w =
     record {
       whose = λ u. absurd (true≢false (sym u ∙ h));
       set = λ u. absurd (true≢false (sym u ∙ h));
@@ -50,7 +54,11 @@ quiet h z =
       read = λ u. absurd (true≢false (sym u ∙ h));
       verified = λ u. absurd (true≢false (sym u ∙ h));
       no-upper = λ u. absurd (true≢false (sym u ∙ h));
+      end = λ u. absurd (true≢false (sym u ∙ h));
+      next = λ u. absurd (true≢false (sym u ∙ h));
+      others = λ u. absurd (true≢false (sym u ∙ h));
       no-unit = λ o _. z o;
+      no-more = w;
     }
 
 -- A channel writes memory, reads it, or verifies.
@@ -214,9 +222,28 @@ module _ (c : Channel) where
         at (lower e _) = ap (λ (q : Bool). q or offAt c m 1) (gone 0 e has-lower)
         at (upper k e _) = ap (λ (q : Bool). offAt c m 0 or q) (gone 1 e (has-upper k)) ∙ or-right (offAt c m 0)
 
+-- A unit on, by the chip's own step.
+step-on : (a : ℕ) (falls k : Bool) → stepped a falls (sizeOf k) ≡ placeOf a falls (sizeOf k) 1
+step-on a true true = refl
+step-on a true false = refl
+step-on a false true = refl
+step-on a false false = refl
+
+moved-on : (c : Channel) (last : Bool) → movedOf c last .current ≡ (if eqb (flagOf last) 1 and auto c then c .base else onward c)
+unfolding movedOf
+moved-on c last = at last (auto c)
+  where
+    on : DmaCycle.next c ≡ onward c
+    on = ap (λ (p : ℕ). span p (less (c .current .count))) (step-on (c .current .address) (down c) (word c))
+
+    at : (l q : Bool) → movedBy c l q .current ≡ (if eqb (flagOf l) 1 and q then c .base else onward c)
+    at true true = refl
+    at true false = on
+    at false q = on
+
 -- A unit of channel c, by what its answer says.
 module _
-    (d : Dma)
+    (d d′ : Dma)
     (r m a : List ℕ)
     (c : Channel)
     (g : Good c)
@@ -226,7 +253,13 @@ module _
     (whose : (channelIn a ≡ d .channel) × (addressIn a ≡ served d .current .address))
     (data-of : dataIn a ≡ byteOf c m 0 (byte r 2))
     (upper-of : upperIn a ≡ byteOf c m 1 (byte r 3))
-    (outside-of : fellOffIn a ≡ flagOf (outsideOf c m)) where
+    (outside-of : fellOffIn a ≡ flagOf (outsideOf c m))
+    (last : Bool)
+    (last-of : last ≡ (eqb (c .current .count) 0 or eqb (byte r 1) 1))
+    (end-of : endIn a ≡ flagOf last)
+    (moved-of : chan d′ (channelIn a) ≡ movedOf c last)
+    (others-of : (k : ℕ) → k ≢ channelIn a → chan d′ k ≡ chan d k)
+    (no-more-of : (getD a 14 0 ≡ 0) × (getD a 15 0 ≡ 0)) where
   flag-one : (q : Bool) → flagOf q ≡ 1 → q ≡ true
   flag-one true h = refl
   flag-one false h = absurd (omega (arith, h))
@@ -258,7 +291,7 @@ module _
       by true e = refl
       by false e = absurd (omega (arith, e))
 
-  unit-tells : Tells d r m (memoryOf c m x y) a
+  unit-tells : Tells d d′ r m (memoryOf c m x y) a
   unit-tells =
       record {
         whose = λ _. whose;
@@ -279,43 +312,71 @@ module _
             rw (channel, data-of, upper-of)
             (λ v. let n = both-of (writes c) (reads c) (sym (moves-bytes c (g .built)) ∙ v) in (still c m (g .address) 0 x (n .0) (n .1), still c m (g .address) 1 y (n .0) (n .1)));
         no-upper = λ _. rw (channel, upper-of) (λ n. rw n);
+        end = λ _. rw channel (end-of ∙ ap flagOf last-of);
+        next = λ _. rw (moved-of, channel, end-of) (moved-on c last);
+        others = λ _. others-of;
         no-unit = λ _ h. absurd (true≢false (sym unit ∙ h));
+        no-more = λ _. no-more-of;
       }
 
 -- A bus cycle.
-cycle-tells : (d : Dma) (r m : List ℕ) (e : Bool) (l : ℕ) → Sound d
-    → Tells d r m (DmaCycle.cycleOf d e (byte r 2) (byte r 3) m .memory) (cycleAnswer l (DmaCycle.cycleOf d e (byte r 2) (byte r 3) m .report))
+cycle-tells : (d : Dma) (r m : List ℕ) (l : ℕ) → Sound d
+    → let out = DmaCycle.cycleOf d (eqb (byte r 1) 1) (byte r 2) (byte r 3) m in Tells d (out .dma) r m (out .memory) (cycleAnswer l (out .report))
 unfolding DmaCycle.cycleOf nothingOf grantedOf releasedOf unitOf answerOf
-cycle-tells d r m e l s = at (d .serving) (releases d) (d .disabled) (eqb (winner d) 4)
+cycle-tells d r m l s = at (d .serving) (releases d) (d .disabled) (eqb (winner d) 4)
   where
+    e : Bool
+    e = eqb (byte r 1) 1
+
+    last : Bool
+    last = lastOf (served d) e
+
+    low : d .channel < length (d .channels)
+    low = rw (s .four) (s .channel)
+
     at : (v q k w : Bool)
-        → Tells d r m (cycleBy d e (byte r 2) (byte r 3) m v q k w .memory) (cycleAnswer l (cycleBy d e (byte r 2) (byte r 3) m v q k w .report))
-    at true true k w = quiet refl (λ _. (refl, refl))
+        → Tells d (cycleBy d e (byte r 2) (byte r 3) m v q k w .dma) r m (cycleBy d e (byte r 2) (byte r 3) m v q k w .memory)
+        (cycleAnswer l (cycleBy d e (byte r 2) (byte r 3) m v q k w .report))
+    at true true k w = quiet refl (λ _. (refl, refl, refl, refl)) (λ _. (refl, refl))
     at true false k w =
         let p = joined (served d .current .address) (s .good (d .channel) .address) in
-        unit-tells d r m (cycleAnswer l (cycleBy d e (byte r 2) (byte r 3) m true false k w .report)) (served d) (s .good (d .channel)) refl refl p (refl, p) refl refl refl
-    at false q true w = quiet refl (λ _. (refl, refl))
-    at false q false true = quiet refl (λ _. (refl, refl))
-    at false q false false = quiet refl (λ _. (refl, refl))
+        unit-tells d (cycleBy d e (byte r 2) (byte r 3) m true false k w .dma) r m (cycleAnswer l (cycleBy d e (byte r 2) (byte r 3) m true false k w .report)) (served d)
+        (s .good (d .channel))
+        refl
+        refl
+        p
+        (refl, p)
+        refl
+        refl
+        refl
+        last
+        refl
+        refl
+        (getD-set-same (d .channels) (d .channel) (movedOf (served d) last) none low)
+        (λ n h. getD-set-other (d .channels) (d .channel) n (movedOf (served d) last) none h)
+        (refl, refl)
+    at false q true w = quiet refl (λ _. (refl, refl, refl, refl)) (λ _. (refl, refl))
+    at false q false true = quiet refl (λ _. (refl, refl, refl, refl)) (λ _. (refl, refl))
+    at false q false false = quiet refl (λ _. (refl, refl, refl, refl)) (λ _. (refl, refl))
 
 -- Any record: one that is no cycle has another operation, and one that is refused no payload.
 module _ (b : Board) (r m : List ℕ) where
   abbrev told : Outcome → List ℕ
   told o = answerOf (o .status) (byte r 0) (o .byte) (levelsOf (o .board)) (o .payload)
 
-  other : (n : ℕ) → eqb (byte r 0) n ≡ true → n ≢ 6 → (o : Outcome) (m′ : List ℕ) → Tells (b .dma) r m m′ (told o)
+  other : (n : ℕ) → eqb (byte r 0) n ≡ true → n ≢ 6 → (o : Outcome) (m′ : List ℕ) → Tells (b .dma) (o .board .dma) r m m′ (told o)
   unfolding answerOf
   other n q h o m′ =
       let six : byte r 0 ≢ 6 = λ e. h (sym (eqb-true (byte r 0) n q) ∙ e) in
-      quiet (none (eqb (o .status) 0) (ne-eqb (byte r 0) 6 six)) (λ e. absurd (six e))
+      quiet (none (eqb (o .status) 0) (ne-eqb (byte r 0) 6 six)) (λ e. absurd (six e)) (λ e. absurd (six e))
     where
       none : (u : Bool) → eqb (byte r 0) 6 ≡ false → (u and eqb (byte r 0) 6 and eqb (getD (o .payload) 0 0) 2) ≡ false
       none true e = rw e
       none false e = refl
 
-  by : (x : Decoded) → Sound (b .dma) → Decodes r x → Tells (b .dma) r m (Step.memoryOf b x m) (told (outcomeOf b x m))
+  by : (x : Decoded) → Sound (b .dma) → Decodes r x → Tells (b .dma) (outcomeOf b x m .board .dma) r m (Step.memoryOf b x m) (told (outcomeOf b x m))
   unfolding outcomeOf Step.memoryOf executeOf memoryAfter cycleOf cycleMemory answerOf
-  by x s malformed = quiet refl (λ _. (refl, refl))
+  by x s malformed = quiet refl (λ _. (refl, refl, refl, refl)) (λ _. (refl, refl))
   by x s (reset o) = other 0 o (omega arith) (outcomeOf b x m) (Step.memoryOf b x m)
   by x s (write o p) = other 1 o (omega arith) (outcomeOf b x m) (Step.memoryOf b x m)
   by x s (read o p) = other 2 o (omega arith) (outcomeOf b x m) (Step.memoryOf b x m)
@@ -327,13 +388,15 @@ module _ (b : Board) (r m : List ℕ) where
   by x s (advance o l) = other 5 o (omega arith) (outcomeOf b x m) (Step.memoryOf b x m)
   by x s (cycle o) = at (blocked b (Cycle (eqb (byte r 1) 1) (byte r 2) (byte r 3)))
     where
-      at : (q : Bool)
-          → Tells (b .dma) r m (if q then m else cycleMemory b (eqb (byte r 1) 1) (byte r 2) (byte r 3) m)
-          (told (if q then refused 1 b else cycleOf b (eqb (byte r 1) 1) (byte r 2) (byte r 3) m))
-      at true = quiet refl (λ _. (refl, refl))
-      at false = rw (eqb-true (byte r 0) 6 o) (cycle-tells (b .dma) r m (eqb (byte r 1) 1) _ s)
+      outcome : Bool → Outcome
+      outcome q = if q then refused 1 b else cycleOf b (eqb (byte r 1) 1) (byte r 2) (byte r 3) m
 
-  step-tells : Sound (b .dma) → Tells (b .dma) r m (stepMemory b r m) (stepOf b r m .answer)
+      at : (q : Bool)
+          → Tells (b .dma) (outcome q .board .dma) r m (if q then m else cycleMemory b (eqb (byte r 1) 1) (byte r 2) (byte r 3) m) (told (outcome q))
+      at true = quiet refl (λ _. (refl, refl, refl, refl)) (λ _. (refl, refl))
+      at false = rw (eqb-true (byte r 0) 6 o) (cycle-tells (b .dma) r m _ s)
+
+  step-tells : Sound (b .dma) → Tells (b .dma) (stepOf b r m .board .dma) r m (stepMemory b r m) (stepOf b r m .answer)
   unfolding stepOf stepMemory answeredOf
   step-tells s = by (decodeOf r) s (decodes r)
 
@@ -345,8 +408,11 @@ outside =
       of-calls = λ {b} h tape m buffer q i l.
           let t = demand-1 .of-call b tape m buffer .taken-call q in
           let c = afterFirst b tape m i in
-          subst (Tells (c .board .dma) (recordOf b tape i) (c .memory) (afterFirst b tape m (suc i) .memory)) (sym (t .answer i l))
-          (subst (λ (m′ : List ℕ). Tells (c .board .dma) (recordOf b tape i) (c .memory) m′ (stepOf (c .board) (recordOf b tape i) (c .memory) .answer))
+          let r = recordOf b tape i in
+          subst (Tells (c .board .dma) (afterFirst b tape m (suc i) .board .dma) r (c .memory) (afterFirst b tape m (suc i) .memory)) (sym (t .answer i l))
+          (subst (λ (b′ : Board). Tells (c .board .dma) (b′ .dma) r (c .memory) (afterFirst b tape m (suc i) .memory) (stepOf (c .board) r (c .memory) .answer))
+          (sym (t .goes-on i .0))
+          (subst (λ (m′ : List ℕ). Tells (c .board .dma) (stepOf (c .board) r (c .memory) .board .dma) r (c .memory) m′ (stepOf (c .board) r (c .memory) .answer))
           (sym (t .goes-on i .1))
-          (step-tells (c .board) (recordOf b tape i) (c .memory) (sound b m (callBytes b tape) i (reached-sound h))));
+          (step-tells (c .board) r (c .memory) (sound b m (callBytes b tape) i (reached-sound h)))));
     }

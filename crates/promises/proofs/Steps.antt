@@ -12,7 +12,7 @@ use Rattle.bits.specs.Choice.{if_then_else_, _and_, _or_}
 use Rattle.tape.specs.declared.Operation.{Operation}
 use Rattle.tape.specs.declared.Operation.the-variants.{Reset, Write, Read, Intp, Gates, Requests, SlaveIntp, Acknowledge, Advance, Cycle}
 use Rattle.tape.specs.declared.Decoded.{Decoded}
-use Rattle.tape.specs.declared.Decoded.the-variants.{Asked, Malformed}
+use Rattle.tape.specs.declared.Decoded.the-variants.{Asked}
 use Rattle.tape.specs.Records.{byte, dmaPort, decodeOf, pulseCount}
 use Rattle.tape.specs.Answers.{twelve, answerOf}
 use Rattle.icu.specs.Words as IcuWords
@@ -34,6 +34,7 @@ use Rattle.tape.proofs.Decodes.{either, Decodes, malformed, reset, write, read,
 use Rattle.promises.specs.Words.{disturbs}
 use Rattle.promises.proofs.Sound.{Sound, cycle-sound, requests-sound, read-sound, write-sound, reset-sound}
 use Rattle.promises.proofs.Seen.{Seen, still, unit, same, Serves, starts}
+use Rattle.promises.proofs.Touched.{On, touched-by}
 
 -- A bus cycle and its answer.
 unmasked : (x y : Bool) → (if x then false else y) ≡ true → x ≡ false
@@ -241,43 +242,20 @@ module _ (b : Board) (r m : List ℕ) where
   seen-step s c = by (decodeOf r) s (decodes r) c
 
   -- The chip stays sound, through resets and writes too.
-  abbrev Kept : Outcome → Type 0
-  Kept o = Sound (o .board .dma)
-
-  execute-sound : (o : Operation) → Sound (b .dma) → Kept (executeOf b o m)
-  unfolding executeOf writeOf readOf timerWritten timerShown dmaWritten dmaShown slaveWritten slaveShown slaveGives acknowledgeOf advanceOf cycleOf
-  execute-sound Reset s = reset-sound
-  execute-sound (Write p x) s =
-      either Kept (eqb (p / 16) 0) (λ _. s)
-      (λ _. either Kept (eqb (p / 16) 1)
-      (λ _. either Kept (eqb (writesOf (b .timer) p x .status) 0) (λ _. s) (λ _. s))
-      (λ _. either Kept (eqb (p / 16) 2)
-      (λ _. either Kept (eqb (DmaRegisters.writeOf (b .dma) p x .status) 0) (λ _. write-sound (b .dma) s p x) (λ _. s))
-      (λ _. either Kept (eqb (IcuWords.writeOf (b .slave) slaveIw3 (a0 p) x .status) 0) (λ _. s) (λ _. s))))
-  execute-sound (Read p) s =
-      either Kept (eqb (p / 16) 0) (λ _. s)
-      (λ _. either Kept (eqb (p / 16) 1)
-      (λ _. either Kept (eqb (readsOf (b .timer) p .status) 0) (λ _. s) (λ _. s))
-      (λ _. either Kept (eqb (p / 16) 2)
-      (λ _. either Kept (eqb (DmaRegisters.readOf (b .dma) p .status) 0) (λ _. read-sound (b .dma) s p) (λ _. s))
-      (λ _. s)))
-  execute-sound (Intp l) s = s
-  execute-sound (Gates l) s = s
-  execute-sound (Requests l) s = requests-sound (b .dma) s l
-  execute-sound (SlaveIntp l) s = s
-  execute-sound Acknowledge s =
-      either Kept (passedOn (b .icu) (lines b) (b .slave)) (λ _. s) (λ _. either Kept (answered (b .icu) (b .slave)) (λ _. s) (λ _. s))
-  execute-sound (Advance n) s = s
-  execute-sound (Cycle e x y) s = cycle-sound (b .dma) s e x y m
-
-  outcome-sound : (x : Decoded) → Sound (b .dma) → Kept (outcomeOf b x m)
-  unfolding outcomeOf
-  outcome-sound Malformed s = s
-  outcome-sound (Asked o) s = either Kept (blocked b o) (λ _. s) (λ _. execute-sound o s)
-
   pub step-sound : Sound (b .dma) → Sound (stepOf b r m .board .dma)
-  unfolding stepOf answeredOf
-  step-sound s = outcome-sound (decodeOf r) s
+  step-sound s = touched-by Sound b m s at r
+    where
+      at : (o : Operation) → On Sound (b .dma) m o
+      at Reset = reset-sound
+      at (Write p x) = λ _. write-sound (b .dma) s p x
+      at (Read p) = read-sound (b .dma) s p
+      at (Intp l) = tt
+      at (Gates l) = tt
+      at (Requests l) = requests-sound (b .dma) s l
+      at (SlaveIntp l) = tt
+      at Acknowledge = tt
+      at (Advance n) = tt
+      at (Cycle e x y) = cycle-sound (b .dma) s e x y m
 
   -- Every answer is sixteen bytes.
   pub answer-length : length (stepOf b r m .answer) ≡ 16

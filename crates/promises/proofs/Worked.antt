@@ -20,7 +20,7 @@ use Rattle.promises.specs.Reached.{Reached, unfed, fed}
 use Rattle.promises.specs.TaughtWords.{low-byte, reloadsNext, Clocks, a-pulse, the-gates, Unread, readAt, plainCycle, Alone}
 use Rattle.promises.specs.Waves.{Loaded}
 use Rattle.promises.specs.Chopped.{Lump, called, lumpByLump, joinedTape, Room, Each, none as no-call, call as call-with}
-use Rattle.promises.specs.Worked.{chopped as chopped-tape, firstLump, emptyLump, lastLumps, oneLump, sevenAndFive, rising, setup, further, memory, board, short, again, three, wordSetup, wordTape, twoUnits, timing, dividing, pulses, armed, started, retriggering, starting, halved, between, latched, busy, requesting, waiting, serving, cycles, bouncing, beating, ticking, masking, outranked, bothSet, cascading, idling, deaf, calling, Worked}
+use Rattle.promises.specs.Worked.{chopped as chopped-tape, firstLump, emptyLump, lastLumps, oneLump, sevenAndFive, rising, setup, further, memory, board, short, again, ones, wordTape, ownWidths, timing, dividing, pulses, armed, started, retriggering, starting, halved, between, latched, busy, requesting, waiting, serving, cycles, bouncing, beating, ticking, masking, outranked, bothSet, cascading, idling, deaf, calling, Worked}
 use Rattle.promises.proofs.Opened.{rules}
 use Rattle.promises.proofs.Sizes.{areBytes, small-bytes, reached-typed}
 use Rattle.promises.proofs.Chopped.{chopped}
@@ -148,7 +148,7 @@ unfolding rules idling bothSet joined
 seventh = let q = highest-asked idling (reached-fit reached-idling) refl in subst (Highest (askedFor idling) (idling .icu .lowest)) (sym (q .2)) (q .1)
 
 pub worked : Worked
-unfolding rules chopped-tape firstLump emptyLump lastLumps oneLump sevenAndFive rising lumpByLump joinedTape setup further memory board short again three wordSetup wordTape twoUnits timing dividing pulses armed started retriggering halved between latched busy requesting waiting serving cycles bouncing beating ticking masking outranked answerAt answersIn unitsOf joined areBytes among unanswered bothSet cascading idling deaf calling
+unfolding rules chopped-tape firstLump emptyLump lastLumps oneLump sevenAndFive rising lumpByLump joinedTape setup further memory board short again ones wordTape ownWidths timing dividing pulses armed started retriggering halved between latched busy requesting waiting serving cycles bouncing beating ticking masking outranked answerAt answersIn unitsOf joined areBytes among unanswered bothSet cascading idling deaf calling
 worked =
     record {
       reached = fed setup memory 80 (small-bytes setup refl) (small-bytes memory refl) unfed;
@@ -170,11 +170,13 @@ worked =
       narrow-reset = refl;
       wide-reset = refl;
       narrow-write = refl;
+      word-downwards = refl;
       word-mode-refused = refl;
       word-read = (refl, refl, refl);
       word-verified = (refl, refl, refl);
-      word-again = (refl, refl);
       byte-on-wide = (refl, refl);
+      word-again = (refl, refl, refl, refl);
+      own-widths = (refl, refl);
       refused-call = refl;
       after-refused = after-refused;
       roomy = roomy;

@@ -1,7 +1,7 @@
 -- Demand 3. Take any board reached from reset, at the end of a record, and any further tape on the same memory with no reset and no
 -- accepted write to the DMA chip.
 --
--- Words.antt has the words: answersIn, unitsOf, lastAt (what answers report, by their bytes), placeOf, mayWrite (places and ranges),
+-- Words.antt has the words: answersIn, unitsOf, lastAt (what answers report, by their bytes), width (how many bytes a channel's unit has), placeOf, mayWrite (places and ranges),
 -- Calm (no reset, no accepted write to the chip), CalmFrom and Further; Reached.antt has Reached.
 use mathlib.Core.Path.{_≡_}
 use mathlib.Core.List.{List, _++_}

@@ -1,12 +1,12 @@
 -- What some words mean, held against second readings: the places, ranges and last answers of demand 3; INT, the level that an acknowledge
--- takes, and its answer with INT low; the channel that is granted; a reset.
+-- takes, and its answer with INT low; the channel that is granted; the width of the bus and of a channel's units; a reset.
 use mathlib.Core.Path.{_≡_}
 use mathlib.Core.List.{List, [], _∷_, _++_}
 use mathlib.Core.Bool.{Bool, true, false, not}
 use Prim.Native.Nat.{ℕ, suc, _+_, _*_, _/_, _%_, _≤_, _<_}
-use mathlib.Core.Logic.{_↔_, _⊎_}
+use mathlib.Core.Logic.{_↔_, _⊎_, _≢_}
 use lib.Dec.{eqb}
-use lib.ListN.{getD, replicate}
+use lib.ListN.{getD, set, replicate}
 use Rattle.bits.specs.Choice.{if_then_else_, _and_, _or_}
 use Rattle.bits.specs.Bits.{bitOf}
 use Rattle.dma.specs.declared.Span.{Span}
@@ -16,11 +16,15 @@ use Rattle.icu.specs.Service.{servedOf}
 use Rattle.board.specs.declared.Board.{Board}
 use Rattle.board.specs.Wiring.{freshOf, icu-is, int, levelsOf}
 use Rattle.board.specs.Step.{stepOf, stepMemory}
-use Rattle.dma.specs.Fields.{wide-is, requests-are}
-use Rattle.promises.specs.Records.{writing, resetting, acknowledging, cyclingWith}
+use Rattle.dma.specs.Fields.{chan, selected, mode-is, channels-are, wide-is, requests-are}
+use Rattle.promises.specs.Records.{writing, reading, resetting, acknowledging, cyclingWith}
 use Rattle.promises.specs.Words.{channelIn, startOf, movedAt, unitAt, lastAt, placeOf, inside, before, Highest, askedFor, asks, Foremost}
 use Rattle.promises.specs.Reached.{Reached}
 use Rattle.promises.specs.Table.{extended, unanswered}
+
+-- A record writes to 20H (32) or 2AH (42), the registers that set the width of the bus and of a channel's units.
+abbrev pub setsWidth : List ℕ → Bool
+setsWidth r = eqb (getD r 0 0) 1 and (eqb (getD r 1 0) 32 or eqb (getD r 1 0) 42)
 
 -- The widths that a unit may have.
 pub data Width : ℕ → Type 0 where
@@ -129,13 +133,22 @@ pub record Meant : Type 0 where
       × (getD (stepOf b (cyclingWith e x y) m .answer) 0 0 ≡ 0)
       × (getD (stepOf b (cyclingWith e x y) m .answer) 4 0 ≡ 0)
   -- Register 0 (20H) with the bus free. With D0 the DMA chip is as op 0 leaves it, but for its request lines, and has the bus of D1. Without D0 it has the bus of D1, and nothing else of it changes; but it can't have 8 bits
-  -- while some channel moves words (`Demand1.row-4`). A board that was never fed has 8 bits.
+  -- while some channel is set to move words (`Demand1.row-4`). A board that was never fed has 8 bits.
   -- Not so: a board that is wide from reset; one on which 03H resets and leaves the bus narrow; one on which 02H resets the chip.
   pub bus-reset : (b : Board) (m : List ℕ) (x : ℕ) → b .dma .serving ≡ false → x % 2 ≡ 1
       → stepOf b (writing 32 x) m .board .dma ≡ wide-is (bitOf x 1) (requests-are (b .dma .requests) (freshOf .dma))
   pub bus-set : (b : Board) (m : List ℕ) (x : ℕ) → b .dma .serving ≡ false → x % 2 ≡ 0 → getD (stepOf b (writing 32 x) m .answer) 0 0 ≡ 0
       → stepOf b (writing 32 x) m .board .dma ≡ wide-is (bitOf x 1) (b .dma)
   pub fresh-narrow : freshOf .dma .wide ≡ false
+  -- Register A (2AH) with the bus free: a mode that is taken, with its width, is the selected channel's, and nothing else of the chip changes; a read shows all of it.
+  -- Not so: a board with one width for all channels; one whose reads hide D0.
+  pub mode-set : (b : Board) (m : List ℕ) (x : ℕ) → b .dma .serving ≡ false → getD (stepOf b (writing 42 x) m .answer) 0 0 ≡ 0
+      → stepOf b (writing 42 x) m .board .dma ≡ channels-are (set (b .dma .channels) (b .dma .selected) (mode-is x (selected (b .dma)))) (b .dma)
+  pub mode-shown : (b : Board) (m : List ℕ) → b .dma .serving ≡ false → getD (stepOf b (reading 42) m .answer) 2 0 ≡ selected (b .dma) .mode
+  -- Nothing else sets a width: a record that is no reset and no write to these two leaves the bus, and the modes of all four channels.
+  -- Not so: a board that is narrow again with its first mode of bytes; one that a grant makes wide; one that an end sets back to bytes.
+  pub widths-kept : (b : Board) (r m : List ℕ) → getD r 0 0 ≢ 0 → setsWidth r ≡ false
+      → (stepOf b r m .board .dma .wide ≡ b .dma .wide) × ((k : ℕ) → k < 4 → chan (stepOf b r m .board .dma) k .mode ≡ chan (b .dma) k .mode)
   -- Operation 0 leaves a board as one that was never fed has it, but for the bytes that are kept, and leaves the memory.
   -- Not so: a board that keeps a mode or a mask; one that clears memory.
   pub reset-is-fresh : (b : Board) (m : List ℕ)

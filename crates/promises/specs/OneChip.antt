@@ -1,4 +1,4 @@
--- The board with one interrupt chip, as it is without a slave: document 01's with requests 1 to 3, 6 and 7 (six modes of the timer, requests that go away, no status 5, bytes that fell off, words), and without 4.
+-- The board with one interrupt chip, as it is without a slave.
 -- It has the same timer, DMA chip and interrupt chip, by the same rules, but for the words that set the interrupt chip up, which are written out here; ports 30H-31H and group 3 are not there, and an
 -- IW1 with D1=0 is not built. The statements of Cascade.antt hold the board with two chips against it.
 use Prim.Native.Nat.{ℕ, zero, suc, _/_}

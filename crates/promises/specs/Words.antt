@@ -1,5 +1,6 @@
 -- The words of the statements: what an answer reports, where a channel moves its units, which bytes are in its range, what disturbs
--- the DMA chip, which of some levels or channels is the highest-ranked, and what the interrupt chip's lines, requests and levels in service are.
+-- the DMA chip, which of some levels or channels is the highest-ranked, and what the interrupt chip's lines, requests and levels in service are. What a mode byte says and where a
+-- unit starts is said here again, and not taken from the chip's own definitions: a mistake in one of those shall not be in what is promised, too.
 use mathlib.Core.Path.{_≡_}
 use mathlib.Core.List.{List, [], _∷_, _++_}
 use mathlib.Core.Bool.{Bool, true, false, not}
@@ -13,7 +14,7 @@ use Rattle.timer.specs.Timer.{at}
 use Rattle.dma.specs.declared.Span.{Span}
 use Rattle.dma.specs.declared.Channel.{Channel}
 use Rattle.dma.specs.declared.Dma.{Dma}
-use Rattle.dma.specs.Fields.{chan}
+use Rattle.dma.specs.Fields.{chan, span}
 use Rattle.board.specs.declared.Board.{Board}
 use Rattle.board.specs.Wiring.{joined}
 use Rattle.board.specs.Step.{stepOf}
@@ -32,10 +33,13 @@ answersIn a (suc n) = answersIn a n ++ answerAt a n ∷ []
 abbrev pub reportsUnit : List ℕ → Bool
 reportsUnit a = eqb (getD a 0 0) 0 and eqb (getD a 1 0) 6 and eqb (getD a 4 0) 2
 
--- Whose unit it is, the address that its channel had, the byte moved, a word's upper byte (byte 13), and byte 12: 1 if any of the unit fell off the end of
--- memory.
+-- Whose unit it is, byte 6 (1 if it was the last one), the address that its channel had, the byte moved, a word's upper byte (byte 13), and byte 12: 1 if any of the unit fell off
+-- the end of memory.
 abbrev pub channelIn : List ℕ → ℕ
 channelIn a = getD a 5 0
+
+abbrev pub endIn : List ℕ → ℕ
+endIn a = getD a 6 0
 
 abbrev pub addressIn : List ℕ → ℕ
 addressIn a = getD a 8 0 + getD a 9 0 * 256 + getD a 10 0 * 65536 + getD a 11 0 * 16777216
@@ -80,7 +84,7 @@ abbrev pub placeOf : ℕ → Bool → ℕ → ℕ → ℕ
 placeOf a falls w i = if falls then (a + 16777216 - w * i) % 16777216 else (a + w * i) % 16777216
 
 -- How many places p is on from a, in the direction. The range of a span in units of w bytes: the unit at its address and as many units on as its count,
--- which are count plus one units: with words from the even address e and count N, upwards e to e + 2N + 1, downwards e - 2N to e + 1. There is no place at
+-- which are count plus one units: with words from the even address e and count N, upwards e to e + 2N + 1, downwards e - 2N to e + 1, modulo 2^24. There is no place at
 -- or past 2^24.
 abbrev pub distance : ℕ → ℕ → Bool → ℕ
 distance p a falls = if falls then (a + 16777216 - p) % 16777216 else (p + 16777216 - a) % 16777216
@@ -107,6 +111,10 @@ down c = bitOf (c .mode) 5
 
 abbrev pub width : Channel → ℕ
 width c = if bitOf (c .mode) 0 then 2 else 1
+
+-- Where channel c stands a unit on: an address as many places on in its direction as a unit has bytes, and a count of one less, modulo 65,536.
+abbrev pub onward : Channel → Span
+onward c = span (placeOf (c .current .address) (down c) (width c) 1) ((c .current .count + 65535) % 65536)
 
 -- A channel may write the byte at p: it is set to write memory, and p lies in its current range or, where it
 -- autoinitializes, in its base range.

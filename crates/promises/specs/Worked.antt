@@ -47,31 +47,26 @@ again mode = joined (writing 34 2 ∷ writing 35 0 ∷ writing 36 5 ∷ writing 
 abbrev pub answersAgain : ℕ → List (List ℕ)
 answersAgain mode = drop 10 (answersIn (after board short (further ++ again mode) 15 .answers) 15)
 
--- Words. A 16-bit bus; channel 0 in block mode to memory, downwards, in words (A5H), with count 1 from address 3; the grant, and two words, 55H with AAH above it and 56H with ABH
--- above it. Three bytes of memory.
-unfoldable pub three : List ℕ
-three = replicate 3 1
+-- Words. A 16-bit bus; channel 0 with a mode, count 1 and an address; the grant, and two units, for which the device has 55H with AAH above it, and 56H with ABH above it. The modes are all block. The memory has three bytes, or four.
+unfoldable pub ones : ℕ → List ℕ
+ones n = replicate n 1
 
-unfoldable pub wordSetup : ℕ → ℕ → ℕ → List (List ℕ)
-wordSetup mode count address =
-    writing 32 2 ∷ writing 42 mode ∷ writing 34 count ∷ writing 36 address ∷ writing 47 14 ∷ setting 2 1 ∷ cycling 0 ∷ []
+unfoldable pub wordTape : ℕ → ℕ → List ℕ
+wordTape mode address =
+    joined (writing 32 2 ∷ writing 42 mode ∷ writing 34 1 ∷ writing 36 address ∷ writing 47 14 ∷ setting 2 1 ∷ cycling 0 ∷ cyclingWith 0 85 170 ∷ cyclingWith 0 86 171 ∷ [])
 
-unfoldable pub wordTape : List ℕ
-wordTape = joined (wordSetup 165 1 3 ++ cyclingWith 0 85 170 ∷ cyclingWith 0 86 171 ∷ [])
+abbrev pub wordAnswers : ℕ → ℕ → List (List ℕ)
+wordAnswers mode address = drop 7 (answersIn (after freshOf (ones 3) (wordTape mode address) 9 .answers) 9)
 
-abbrev pub wordAnswers : List (List ℕ)
-wordAnswers = drop 7 (answersIn (after freshOf three wordTape 9 .answers) 9)
+abbrev pub wordBoard : ℕ → ℕ → Board
+wordBoard mode address = after freshOf (ones 3) (wordTape mode address) 9 .board
 
-abbrev pub wordBoard : Board
-wordBoard = after freshOf three wordTape 9 .board
+-- Two channels: 0 with words, 1 with bytes. Each mode is read, and then the bus is to be made narrow.
+unfoldable pub ownWidths : List ℕ
+ownWidths = joined (writing 32 2 ∷ writing 42 133 ∷ writing 33 1 ∷ writing 42 132 ∷ reading 42 ∷ writing 33 0 ∷ reading 42 ∷ writing 32 0 ∷ [])
 
--- The same channel upwards: words that are read (89H), verified (81H), and that go to memory with autoinitialize (95H), from address 1; and bytes to memory (84H). In each two units, with the device's bytes 55H
--- and AAH.
-unfoldable pub twoUnits : ℕ → ℕ → List ℕ
-twoUnits mode address = joined (wordSetup mode 1 address ++ cyclingWith 0 85 170 ∷ cyclingWith 0 85 170 ∷ [])
-
-abbrev pub twoAnswers : ℕ → ℕ → List (List ℕ)
-twoAnswers mode address = drop 7 (answersIn (after freshOf three (twoUnits mode address) 9 .answers) 9)
+abbrev pub ownAnswers : List (List ℕ)
+ownAnswers = answersIn (after freshOf [] ownWidths 8 .answers) 8
 
 -- Loading. Counter 2 in mode 0, low byte, at 9; counter 0 in mode 2, low byte, at 3; and three pulses.
 unfoldable pub timing : Board
@@ -231,25 +226,31 @@ pub record Worked : Type 0 where
   pub read-back : map dataIn (answersAgain 136) ≡ 0 ∷ 7 ∷ 255 ∷ 255 ∷ 0 ∷ []
   pub told-too : map fellOffIn (answersAgain 136) ≡ 0 ∷ 0 ∷ 1 ∷ 1 ∷ 0 ∷ []
   pub verified : (unitsOf 0 (answersAgain 128) ≡ 5 ∷ 6 ∷ 7 ∷ []) × (map fellOffIn (answersAgain 128) ≡ 0 ∷ 0 ∷ 0 ∷ 0 ∷ 0 ∷ [])
-  -- Count 1 moves two words. The one at address 3 uses bytes 2 and 3, of which byte 3 is past the end; that at address 1 uses bytes 0 and 1. Then the bus can't be made narrow, since the channel is
-  -- still set to words; with RES it can.
-  pub word-units : unitsOf 0 wordAnswers ≡ 3 ∷ 1 ∷ []
-  pub word-uppers : map upperIn wordAnswers ≡ 170 ∷ 171 ∷ []
-  pub half-fallen : map fellOffIn wordAnswers ≡ 1 ∷ 0 ∷ []
-  pub word-bytes : after freshOf three wordTape 9 .memory ≡ 86 ∷ 171 ∷ 85 ∷ []
-  pub narrow-refused : getD (stepOf wordBoard (writing 32 0) three .answer) 0 0 ≡ 4
-  pub narrow-reset : stepOf wordBoard (writing 32 1) three .board .dma .wide ≡ false
-  pub wide-reset : stepOf wordBoard (writing 32 3) three .board .dma .wide ≡ true
-  pub narrow-write : stepOf (stepOf freshOf (writing 32 2) three .board) (writing 32 0) three .board .dma .wide ≡ false
+  -- To memory and downwards (A5H) from address 3, over three bytes: count 1 moves two words. The one at address 3 uses bytes 2 and 3, of which byte 3 is past the end; that at address 1 uses bytes 0 and 1. Then the
+  -- bus can't be made narrow, since the channel is still set to words; with RES it can.
+  pub word-units : unitsOf 0 (wordAnswers 165 3) ≡ 3 ∷ 1 ∷ []
+  pub word-uppers : map upperIn (wordAnswers 165 3) ≡ 170 ∷ 171 ∷ []
+  pub half-fallen : map fellOffIn (wordAnswers 165 3) ≡ 1 ∷ 0 ∷ []
+  pub word-bytes : after freshOf (ones 3) (wordTape 165 3) 9 .memory ≡ 86 ∷ 171 ∷ 85 ∷ []
+  pub narrow-refused : getD (stepOf (wordBoard 165 3) (writing 32 0) [] .answer) 0 0 ≡ 4
+  pub narrow-reset : stepOf (wordBoard 165 3) (writing 32 1) [] .board .dma .wide ≡ false
+  pub wide-reset : stepOf (wordBoard 165 3) (writing 32 3) [] .board .dma .wide ≡ true
+  pub narrow-write : stepOf (stepOf freshOf (writing 32 2) [] .board) (writing 32 0) [] .board .dma .wide ≡ false
+  -- From address 2, over four bytes: downwards too a word is the even address and the one above it.
+  pub word-downwards : after freshOf (ones 4) (wordTape 165 2) 8 .memory ≡ 1 ∷ 1 ∷ 85 ∷ 170 ∷ []
   -- From reset a word mode is refused.
-  pub word-mode-refused : getD (stepOf freshOf (writing 42 165) three .answer) 0 0 ≡ 4
-  -- Read, the second word has the last byte of memory, and FFH for the one that is not there. Verified, both are 0. With autoinitialize the words are at 1 and 3, and the address is 1 again. A byte at an odd address takes the
-  -- device's lower byte, on the wide bus too, and its answer has no upper one.
-  pub word-read : (map dataIn (twoAnswers 137 1) ≡ 1 ∷ 1 ∷ []) × (map upperIn (twoAnswers 137 1) ≡ 1 ∷ 255 ∷ []) × (map fellOffIn (twoAnswers 137 1) ≡ 0 ∷ 1 ∷ [])
-  pub word-verified : (unitsOf 0 (twoAnswers 129 1) ≡ 1 ∷ 3 ∷ []) × (map upperIn (twoAnswers 129 1) ≡ 0 ∷ 0 ∷ []) × (map fellOffIn (twoAnswers 129 1) ≡ 0 ∷ 0 ∷ [])
-  pub word-again : (unitsOf 0 (twoAnswers 149 1) ≡ 1 ∷ 3 ∷ [])
-      × (chan (after freshOf three (twoUnits 149 1) 9 .board .dma) 0 .current .address ≡ 1)
-  pub byte-on-wide : (after freshOf three (twoUnits 132 1) 9 .memory ≡ 1 ∷ 85 ∷ 85 ∷ []) × (map upperIn (twoAnswers 132 1) ≡ 0 ∷ 0 ∷ [])
+  pub word-mode-refused : getD (stepOf freshOf (writing 42 165) [] .answer) 0 0 ≡ 4
+  -- Upwards from address 1. Read (89H), the second word has the last byte of memory, and FFH for the one that is not there. Verified (81H), both are 0. A byte (84H) at an odd address takes the device's lower byte, on the wide bus
+  -- too, and its answer has no upper one.
+  pub word-read : (map dataIn (wordAnswers 137 1) ≡ 1 ∷ 1 ∷ []) × (map upperIn (wordAnswers 137 1) ≡ 1 ∷ 255 ∷ []) × (map fellOffIn (wordAnswers 137 1) ≡ 0 ∷ 1 ∷ [])
+  pub word-verified : (unitsOf 0 (wordAnswers 129 1) ≡ 1 ∷ 3 ∷ []) × (map upperIn (wordAnswers 129 1) ≡ 0 ∷ 0 ∷ []) × (map fellOffIn (wordAnswers 129 1) ≡ 0 ∷ 0 ∷ [])
+  pub byte-on-wide : (after freshOf (ones 3) (wordTape 132 1) 9 .memory ≡ 1 ∷ 85 ∷ 86 ∷ []) × (map upperIn (wordAnswers 132 1) ≡ 0 ∷ 0 ∷ [])
+  -- With autoinitialize the words are at 1 and 3 upwards (95H), at 3 and 1 downwards (B5H), and then the address is the first one again.
+  pub word-again : (unitsOf 0 (wordAnswers 149 1) ≡ 1 ∷ 3 ∷ []) × (chan (wordBoard 149 1 .dma) 0 .current .address ≡ 1)
+      × (unitsOf 0 (wordAnswers 181 3) ≡ 3 ∷ 1 ∷ [])
+      × (chan (wordBoard 181 3 .dma) 0 .current .address ≡ 3)
+  -- Each channel has its own width, and channel 0 keeps the bus wide though channel 1 moves bytes.
+  pub own-widths : (map dataIn ownAnswers ≡ 0 ∷ 0 ∷ 0 ∷ 0 ∷ 132 ∷ 0 ∷ 133 ∷ 0 ∷ []) × (map (λ a. getD a 0 0) ownAnswers ≡ 0 ∷ 0 ∷ 0 ∷ 0 ∷ 0 ∷ 0 ∷ 0 ∷ 4 ∷ [])
   -- With no room the call is refused, and the same tape with room goes on from what it left.
   pub refused-call : fedOf board further memory 0 .status ≡ 7
   pub after-refused : Further (fedOf board further memory 0 .board) (fedMemory board further memory 0) (answersIn (fedAnswers board further memory (replicate 80 0)) 5 ++ []) (fedMemory board further memory 80)
