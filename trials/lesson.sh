@@ -659,8 +659,8 @@ END
     printf '\0\006\104\0\002\0\0\0\003\0\001\0\002\0\0\0' >>answers
     start lesson explain answers
     status_is 0
-    row_says '41 at 010000: past the end of memory channel'
-    row_says '42 at 010001: past the end of memory; end, bus free channel'
+    row_says "41 at 010000: past the end of memory, it or a word's upper byte channel"
+    row_says "42 at 010001: past the end of memory, it or a word's upper byte; end, bus free channel"
     row_says '43 at 010002, bus free channel'
     row_says '44 at 010003 '
 }
@@ -751,15 +751,15 @@ trial_lesson_bus() { # words are for the 16-bit bus: a word mode without it, and
         expect 'the end' "records: $(($(wc -l <x))), refused: $refused" "$(grep ^records out)"
         row_says "$row"
     done <<'END'
-1|write 2A 85\n|4: not built, words on the 8-bit bus; for the 16-bit bus write 02 to port 20 first
+1|write 2A 85\n|4: no words on the 8-bit bus; for the 16-bit bus write 02 to port 20 first
 0|write 20 02\nwrite 2A 85\n|done done
 1|write 20 02\nwrite 2A 87\n|4: not built, D1 of a mode
-1|write 20 02\nwrite 2A 85\nwrite 20 00\n|4: not built, words on the 8-bit bus; channels in a word mode: 0. Give each a byte mode first, or reset the chip
+1|write 20 02\nwrite 2A 85\nwrite 20 00\n|4: the 8-bit bus has no words; channels in a word mode: 0. Give each a byte mode first, or reset the chip
 1|write 20 02\nwrite 21 01\nwrite 2A 01\nwrite 21 03\nwrite 2A 85\nwrite 20 00\n|channels in a word mode: 1 3. Give
 0|write 20 02\nwrite 2A 85\nwrite 2A 84\nwrite 20 00\n|done done done done
 0|write 20 02\nwrite 2A 85\nwrite 20 03\nwrite 2A 85\n|done done done done
-1|write 20 02\nwrite 2A 85\nwrite 20 01\nwrite 2A 85\n|done done done 4: not built, words on the 8-bit bus
-1|write 20 02\nreset\nwrite 2A 85\n|done done 4: not built, words on the 8-bit bus
+1|write 20 02\nwrite 2A 85\nwrite 20 01\nwrite 2A 85\n|done done done 4: no words on the 8-bit bus
+1|write 20 02\nreset\nwrite 2A 85\n|done done 4: no words on the 8-bit bus
 END
 }
 

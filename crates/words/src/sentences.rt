@@ -100,7 +100,7 @@ pub fn answered(n: u8, facts: [u8; 16]) -> Text {
 06 nothing: no channel to serve
 07 channel %508 gets the bus; no unit
 08 channel %508 leaves the bus; no unit
-09 channel %508: {403verified|$2 to memory|$2 from memory|$2 at|word verified|$2 $D to memory|$2 $D from memory|$2 $D at} @8{E02|: odd, so ~8 and @8|: past the end of memory|: odd, so ~8 and @8; past the end of memory}{F03|, lost|, reads FF|||, both lost|, both read FF|, the upper byte or both}{C03|, bus free|, end, bus free|||; bus free|; end, bus free}
+09 channel %508: {403verified|$2 to memory|$2 from memory|$2 at|word verified|$2 $D to memory|$2 $D from memory|$2 $D at} @8{E02|: odd, so ~8 and @8|: past the end of memory|: odd, so ~8 and @8; past the end of memory}{F03|, lost|, reads FF|, it or a word's upper byte||, both lost|, both read FF|, the upper byte or both}{C03|, bus free|, end, bus free|||; bus free|; end, bus free}
 0A :{E01| level 7, but the slave's} INT is low, {C02no level asks|every level that asks is masked|level %D08 is in service and not outranked}; answered as {E01|its }level 7
 0B {E01|: level 7, and the slave gives its level %C08}
 
@@ -116,7 +116,7 @@ pub fn answered(n: u8, facts: [u8; 16]) -> Text {
 21 1: a DMA channel has the bus
 22 2: there is no such record, port or level
 23 3: out of turn
-24 4: not built
+24 4: not built, or words on the 8-bit bus
 25 5: this board never gives it
 26 6: count 1 in mode 2 or 3
 27 %008: no status that a record can have
@@ -165,8 +165,8 @@ pub fn refused(n: u8, facts: [u8; 16]) -> Text {
 42 4: not built, the exceptional nesting mode
 43 4: not built, the multiple latch; there are counters 0 to 2
 44 4: not built, counting in BCD
-45 4: not built, words on the 8-bit bus; for the 16-bit bus write 02 to port 20 first
-46 4: not built, words on the 8-bit bus; channels in a word mode:*904. Give each a byte mode first, or reset the chip
+45 4: no words on the 8-bit bus; for the 16-bit bus write 02 to port 20 first
+46 4: the 8-bit bus has no words; channels in a word mode:*904. Give each a byte mode first, or reset the chip
 47 4: not built, bits of device control other than D4 and D2
 48 4: not built, any bit of device control high; write 00
 49 4: not built, cascade (D7 and D6 set)
@@ -193,8 +193,8 @@ pub fn bad_line(n: u8, line: u64, column: u64, found: [u8; 8]) -> Text {
 03 :&0:&1: expected the levels, one or two hexadecimal digits
 04 :&0:&1: expected the number of pulses, decimal, at most 65535
 05 :&0:&1: expected the device's byte, one or two hexadecimal digits, or the end of the line
-06 :&0:&1: expected the device's upper byte, one or two hexadecimal digits, the word end, or the end of the line
-07 :&0:&1: expected the word end, or the end of the line
+06 :&0:&1: expected the device's upper byte, one or two hexadecimal digits, or 'end', or the end of the line
+07 :&0:&1: expected 'end', or the end of the line
 08 :&0:&1: expected one of the eight bytes of a raw record, one or two hexadecimal digits
 09 :&0:&1: expected the end of the line, or a # comment
 0A :&0:&1: expected the end of the line by here: a line has at most 1000 characters
