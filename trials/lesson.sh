@@ -234,7 +234,7 @@ trial_lesson_filters_not_written() { # a write of a filter that fails is told wi
 trial_lesson_full_disk() { # a full disk as standard output: a message and status 1, of each command, and the lessons after it are not begun
     good >b.lesson
     good_tape >t
-    for words in 'b.lesson b.lesson b.lesson' 'pieces b.lesson' 'assemble b.lesson' 'list t' "explain $answers"; do
+    for words in 'b.lesson b.lesson b.lesson' 'pieces b.lesson' 'listing b.lesson' 'try b.lesson' card 'card 2A' 'assemble b.lesson' 'list t' "explain $answers"; do
         asked="./run lesson $words >/dev/full"
         # shellcheck disable=SC2086
         "$run" lesson $words >/dev/full 2>said
@@ -249,7 +249,7 @@ trial_lesson_closed_pipe() { # nobody reads the output: status 141 and no messag
     good >b.lesson
     good_tape >t
     open_closed_pipe
-    for words in b.lesson 'pieces b.lesson' 'assemble b.lesson' 'list t' "explain $answers"; do
+    for words in b.lesson 'pieces b.lesson' 'listing b.lesson' 'try b.lesson' card 'card 2A' 'assemble b.lesson' 'list t' "explain $answers"; do
         asked="./run lesson $words (into a closed pipe)"
         # shellcheck disable=SC2086
         "$run" lesson $words >&6 2>said
@@ -474,7 +474,10 @@ trial_lesson_names_shown() { # control characters in a name are shown, not sent,
 }
 
 # The answer column, as one line.
-answer_column() { cut -c38-72 out | tr -s ' \n' ' '; }
+answer_column() { cut -c42-73 out | tr -s ' \n' ' '; }
+
+# The column of what was asked, as one line.
+asked_column() { cut -c14-41 out | tr -s ' \n' ' '; }
 
 # row_says PART: the answer column of the last run has it.
 row_says() { case $(answer_column) in *"$1"*) ;; *) wrong 'the row' "'$1'" "$(answer_column)" ;; esac; }
@@ -513,18 +516,20 @@ trial_lesson_modes() { # a control word is shown with its mode, 0 to 5 by eight 
         start lesson x
         status_is 0
         expect 'the end' 'records: 2, refused: 0' "$(grep ^records out)"
-        grep -q "control: 1$1 (mode $3, done " out || wrong 'the row' "mode $3" "$(sed -n 3p out)"
+        case $(asked_column) in *"control: 1$1 (mode $3, low byte)"*) ;; *) wrong 'the row' "mode $3" "$(sed -n 3,4p out)" ;; esac
+        row_says 'waits for a count'
         printf 'write 13 1%s\n' "$2" >x
         start lesson x
         expect 'the end' 'records: 1, refused: 1' "$(grep ^records out)"
-        grep -q "control: 1$2 (mode $3, 4: not built, counting in BCD " out || wrong 'the row' "mode $3, BCD" "$(sed -n 3p out)"
+        case $(asked_column) in *"control: 1$2 (mode $3, BCD)"*) ;; *) wrong 'the row' "mode $3, BCD" "$(sed -n 3,4p out)" ;; esac
+        row_says '4: not built, counting in BCD '
     done
 }
 
 trial_lesson_int_low() { # an acknowledge with INT low is answered as level 7, by vector or CALL, and the row says why INT is low; explain has the bytes alone, and says of a 5 that it is never given
     printf 'write 00 13\nwrite 01 40\nwrite 01 01\n' >vector
     printf 'write 00 B6\nwrite 01 12\n' >call
-    for mode in 'vector:vector 47' 'call:CALL CD BC 12'; do
+    for mode in 'vector:vector 47 (level 7)' 'call:CALL 12BC (level 7)'; do
         for cause in 'no level asks:' 'no level asks:intp 20\nintp 00\n' 'every level that asks is masked:write 01 08\nintp 08\n' \
             'level 5 is in service and not outranked:intp 20\nacknowledge\nintp 60\n'; do
             # shellcheck disable=SC2059
@@ -544,7 +549,7 @@ trial_lesson_int_low() { # an acknowledge with INT low is answered as level 7, b
     printf '\0\004\107\0\0\0\0\0\0\0\0\0\0\0\0\0\005\004\0\0\0\0\0\0\0\0\0\0\0\0\0\0' >answers
     start lesson explain answers
     status_is 0
-    row_says 'vector 47 5: this board never gives it'
+    row_says 'vector 47 (level 7) 5: this board never gives it'
 }
 
 trial_lesson_slave() { # the slave's lines and ports go to a tape and back; an acknowledge says what the slave gives, or why nothing, or how the two chips differ; a wrong IW3 is refused, and the row has the right one
@@ -556,7 +561,7 @@ trial_lesson_slave() { # the slave's lines and ports go to a tape and back; an a
     start lesson list t
     status_is 0
     wrote b.lesson
-    low="vector 3F: level 7, but the slave's INT is low"
+    low="vector 3F (level 7): level 7, but the slave's INT is low"
     while IFS='|' read -r records row; do
         # shellcheck disable=SC2059
         { printf 'write %s\n' '00 11' '01 40' '01 80' '01 01' '30 11' '31 38' '31 07' '31 01'; printf "$records"; echo acknowledge; } >x
@@ -565,8 +570,8 @@ trial_lesson_slave() { # the slave's lines and ports go to a tape and back; an a
         row_says "$row"
         awk 'length > 80 { exit 1 }' out || wrong 'columns of a row' '80 at the most' "$(awk 'length > 80' out)"
     done <<END
-slave 20\n|vector 3D: level 7, and the slave gives its level 5
-slave 20\nslave 00\n|vector 47: INT is low, no level asks; answered as level 7
+slave 20\n|vector 3D (level 5): level 7, and the slave gives its level 5
+slave 20\nslave 00\n|vector 47 (level 7): INT is low, no level asks; answered as level 7
 intp 80\n|$low, no level asks; answered as its level 7
 write 31 08\nslave 08\nintp 80\n|$low, every level that asks is masked; answered as its level 7
 slave 08\nacknowledge\nwrite 00 20\nslave 48\nintp 80\n|$low, level 3 is in service and not outranked; answered as its level 7
@@ -581,15 +586,19 @@ END
     # line 7 of a single master is a line like others, whoever raises it
     printf 'write 00 13\nwrite 01 40\nwrite 01 01\nwrite 30 13\nwrite 31 38\nwrite 31 01\nslave 20\nacknowledge\n' >x
     start lesson x
-    grep -q 'acknowledge  *vector 47  *000' out || wrong 'the row' 'vector 47, and no more' "$(tail -n 3 out)"
+    row_says 'vector 47 (level 7); in service: 7 '
 }
 
-trial_lesson_readme() { # README.md prints what its first lesson prints, and has every lesson, in the order of their numbers
+trial_lesson_readme() { # README.md has the first rows that its first lesson prints, and has every lesson, in the order of their numbers
     ln -s "$lessons" lessons
     start lesson lessons/finish.lesson
     status_is 0
     sed -n '/^## Run a lesson/,/^## The lessons/s/^    //p' "$root/README.md" | sed -n '/^lessons\/finish[.]lesson$/,$p' >shown
-    wrote shown
+    # the page has the first rows, and then two dots
+    expect 'the end of what README.md shows' .. "$(tail -n 1 shown)"
+    sed '$d' shown >rows
+    head -n "$(($(wc -l <rows)))" out >head
+    cmp -s head rows || wrong 'what README.md shows' "$(diff rows head | sed -n '2s/^> //p')" "$(diff rows head | sed -n 's/^< //p' | sed 1q)"
     # shellcheck disable=SC2016
     sed -n 's/^| `\([a-z]*[.]lesson\)` .*/\1/p' "$root/README.md" >listed
     number=0
@@ -639,11 +648,11 @@ trial_lesson_past_the_end() { # a unit past the end of memory is told in its row
         expect 'the end' "$counted" "$(sed -n '/^records/,/^memory/p' out | sed -n 's/^bytes //p')"
         awk 'length > 80 { exit 1 }' out || wrong 'columns of a row' '80 at the most' "$(awk 'length > 80' out)"
     done <<END
-84|lost past the end of memory: 2|41 to memory 00FFFF|42 to memory 010000: past the end of memory, lost|43 to memory 010001: past the end of memory, lost; end, bus free
-44|lost past the end of memory: 2|41 to memory 00FFFF, bus free|43 to memory 010000: past the end of memory, lost; bus free|45 to memory 010001: past the end of memory, lost; end, bus free
-88|read past the end of memory: 2|00 from memory 00FFFF|FF from memory 010000: past the end of memory, reads FF|FF from memory 010001: past the end of memory, reads FF; end, bus free
-48|read past the end of memory: 2|00 from memory 00FFFF, bus free|FF from memory 010000: past the end of memory, reads FF; bus free|FF from memory 010001: past the end of memory, reads FF; end, bus free
-80||verified 00FFFF|verified 010000|verified 010001, end, bus free
+84|lost past the end of memory: 2|41 to memory 00FFFF; units left: 2|42 to memory 010000: past the end of memory, lost; units left: 1|43 to memory 010001: past the end of memory, lost; end, bus free
+44|lost past the end of memory: 2|41 to memory 00FFFF; units left: 2, bus free|43 to memory 010000: past the end of memory, lost; units left: 1, bus free|45 to memory 010001: past the end of memory, lost; end, bus free
+88|read past the end of memory: 2|00 from memory 00FFFF; units left: 2|FF from memory 010000: past the end of memory, reads FF; units left: 1|FF from memory 010001: past the end of memory, reads FF; end, bus free
+48|read past the end of memory: 2|00 from memory 00FFFF; units left: 2, bus free|FF from memory 010000: past the end of memory, reads FF; units left: 1, bus free|FF from memory 010001: past the end of memory, reads FF; end, bus free
+80||verified 00FFFF; units left: 2|verified 010000; units left: 1|verified 010001, end, bus free
 END
     # where every byte is lost nothing changed; and downwards the last of three arrives
     three_at 84 10 00 00 >x
@@ -651,7 +660,7 @@ END
     expect 'the end' 'bytes lost past the end of memory: 3 memory: nothing changed' "$(tail -n 2 out | tr '\n' ' ' | sed 's/ $//')"
     three_at A4 01 00 01 >x
     start lesson x
-    row_says '42 to memory 010000: past the end of memory, lost channel 0: 43 to memory 00FFFF, end, bus free'
+    row_says '42 to memory 010000: past the end of memory, lost; units left: 1 channel 0: 43 to memory 00FFFF, end, bus free'
     # answers by themselves: the address does not tell, and no other number in byte 12 does
     printf '\0\006\101\0\002\0\0\0\0\0\001\0\001\0\0\0' >answers
     printf '\0\006\102\0\002\0\001\001\001\0\001\0\001\0\0\0' >>answers
@@ -738,7 +747,7 @@ END
     status_is 0
     row_says '41 42 at 000103: odd, so 000102 and 000103 channel'
     row_says '41 42 at 000102: past the end of memory, the upper byte or both; end, bus free channel'
-    row_says '41 42 at 000103: odd, so 000102 and 000103; past the end of memory, the upper byte or both; bus free channel'
+    row_says '41 42 at 000103: odd, so 000102 and 000103; past the end of memory, the upper byte or both, bus free channel'
     row_says '41 at 000103 '
 }
 
@@ -757,8 +766,8 @@ trial_lesson_bus() { # words are for the 16-bit bus: a word mode without it, and
 1|write 20 02\nwrite 2A 85\nwrite 20 00\n|4: the 8-bit bus has no words; channels in a word mode: 0. Give each a byte mode first, or reset the chip
 1|write 20 02\nwrite 21 01\nwrite 2A 01\nwrite 21 03\nwrite 2A 85\nwrite 20 00\n|channels in a word mode: 1 3. Give
 0|write 20 02\nwrite 2A 85\nwrite 2A 84\nwrite 20 00\n|done done done done
-0|write 20 02\nwrite 2A 85\nwrite 20 03\nwrite 2A 85\n|done done done done
-1|write 20 02\nwrite 2A 85\nwrite 20 01\nwrite 2A 85\n|done done done 4: no words on the 8-bit bus
+0|write 20 02\nwrite 2A 85\nwrite 20 03\nwrite 2A 85\n|done done every channel is masked done
+1|write 20 02\nwrite 2A 85\nwrite 20 01\nwrite 2A 85\n|done done every channel is masked 4: no words on the 8-bit bus
 1|write 20 02\nreset\nwrite 2A 85\n|done done 4: no words on the 8-bit bus
 END
 }
@@ -787,4 +796,117 @@ trial_lesson_tapes() { # an empty tape and a cut one are told, with status 1; th
     status_is 1
     says 'Is a directory'
     wrote_nothing
+}
+
+trial_lesson_checks() { # a check that fails, a guess that is still asked for: status 1, and the row says both; a lesson whose checks hold ends with 0
+    printf 'write 00 B6\nwrite 01 12\nwrite 00 0B\nread 00 = 00\nexpect int 0\n' >right
+    start lesson right
+    status_is 0
+    silent
+    expect 'the checks' 'checks: 2, failed: 0' "$(grep ^checks out)"
+    sed 's/= 00/= 20 # a guess/' right >wrong
+    start lesson wrong
+    status_is 1
+    silent
+    row_says 'expected 20, read 00 (levels: none)'
+    expect 'the checks' 'checks: 2, failed: 1' "$(grep ^checks out)"
+    sed 's/= 00/= ?/' right >asked
+    printf 'read 00 = ?\nwrite 01 FF\n' >>asked
+    start lesson asked
+    status_is 1
+    silent
+    row_says '? put your guess in its place'
+    expect 'the others' '    6                                    ? still to be filled in' "$(grep 'still to be' out | head -n 1)"
+    expect 'the guesses' 'guesses still to be filled in: 2' "$(grep ^guesses out)"
+    expect 'the records' 'records: 3, refused: 0' "$(grep ^records out)"
+}
+
+trial_lesson_exercises() { # each exercise asks, answers the mistaken guess with more than the row, and is met by the right guesses; all rows stay on 80 columns
+    for exercise in finish count pulse half; do
+        start lesson "$lessons/exercises/$exercise.lesson"
+        status_is 1
+        expect 'the guesses' 'guesses still to be filled in: 4' "$(grep ^guesses out)"
+        start lesson "$lessons/gate/$exercise.mistake.lesson"
+        status_is 1
+        expect 'failed checks' 4 "$(sed -n 's/^checks: .*, failed: //p' out)"
+        expect 'answers to guesses' 4 "$(awk '/^ +[0-9]+ +[0-9]+ / { row = 1 } /^      [^ ]/ { if (row) n++; row = 0 } END { print n + 0 }' out)"
+        awk 'length > 80 { exit 1 }' out || wrong 'columns' '80 at the most' "$(awk 'length > 80' out)"
+        start lesson "$lessons/gate/$exercise.right.lesson"
+        status_is 0
+        expect 'failed checks' 0 "$(sed -n 's/^checks: .*, failed: //p' out)"
+    done
+}
+
+trial_lesson_same_tape() { # checks, guesses, memory and show make no record: the tape is that of the plain lesson; texts and repeats are as many records
+    for name in finish count pulse half; do
+        start lesson assemble "$lessons/exercises/$name.lesson"
+        status_is 0
+        cp out t
+        sed -e 's/=.*//' -e '/^guess/d' -e '/^memory/d' -e '/^expect/d' "$lessons/exercises/$name.lesson" >plain
+        start lesson assemble plain
+        status_is 0
+        wrote t
+    done
+    printf 'memory 0 "x"\nrepeat 2 cycle "Br" = nothing\nrepeat 3 read 10\nshow\n' >short
+    printf 'cycle 42\ncycle 72\ncycle 42\ncycle 72\nread 10\nread 10\nread 10\n' >long
+    start lesson assemble long
+    cp out t
+    start lesson assemble short
+    status_is 0
+    wrote t
+    # more records than the buffer holds, of one line
+    printf 'repeat 65535 cycle "ab"\n' >many
+    start lesson assemble many
+    status_is 0
+    expect 'bytes' 1048560 "$(($(wc -c <out)))"
+}
+
+trial_lesson_try() { # a line in, its row out, at once; a bad line is told and the next goes on; again starts from reset; the end of the input ends it
+    mkfifo in
+    "$run" lesson try <in >out 2>said &
+    exec 5>in
+    echo 'write 13 10' >&5
+    tries=0
+    until grep -q 'counter 0 control' out || [ $tries -ge 100 ]; do sleep 0.1; tries=$((tries + 1)); done
+    grep -q 'counter 0 control' out || wrong 'the row' 'at once' "$(cat out)"
+    printf 'wriet\nshow timer\nagain\nshow timer\ncard 13\nread 10\n' >&5
+    exec 5>&-
+    wait $!
+    status=$?
+    asked='./run lesson try'
+    status_is 1
+    says_of 'lesson: standard input:2:1:' 'expected reset'
+    expect 'counters' 'counter 0: mode 0 counter 0: no mode' "$(sed -n 's/^ *\(counter 0: [a-z]* [a-z0-9]*\).*/\1/p' out | tr '\n' ' ' | sed 's/ $//')"
+    expect 'the end' 'records: 2, refused: 1' "$(grep ^records out)"
+    printf 'write 13 10\n' >b.try
+    start lesson try <b.try
+    status_is 0
+    silent
+}
+
+trial_lesson_cards() { # every port and every word of the index has a card of at most 23 lines of 79 columns; what has none is told
+    start lesson card
+    status_is 0
+    cp out index
+    for word in $(sed 's/:.*//' index); do
+        start lesson card "$word"
+        status_is 0
+        silent
+        awk 'length > 79 { exit 1 } END { if (NR > 23) exit 1 }' out || wrong "the card of $word" '23 lines of 79 columns at the most' "$(wc out)"
+    done
+    start lesson card 99
+    status_is 1
+    wrote_nothing
+    says_of 99 'there is no such card'
+}
+
+trial_lesson_listing() { # listing has the rows of a lesson, and its comments and empty lines between them
+    start lesson "$lessons/finish.lesson"
+    cp out rows
+    start lesson listing "$lessons/finish.lesson"
+    status_is 0
+    grep -v -e '^#' -e '^$' out >bare
+    cmp -s bare rows || wrong 'the rows' 'those of the lesson' "$(diff bare rows | head -n 4)"
+    expect 'comments' "$(grep -c '#' "$lessons/finish.lesson")" "$(grep -c '^#' out)"
+    expect 'empty lines' "$(grep -c '^$' "$lessons/finish.lesson")" "$(grep -c '^$' out)"
 }

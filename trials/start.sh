@@ -63,15 +63,15 @@ trial_duel() { # duel ends with 0 only if its last line has all zeros, and tells
     status_is 0
     silent
     expect 'the last line' 'files not read: 0, bad lines: 0, charts failed: 0, differences: 0' "$(tail -n 1 out)"
-    printf '# OUT0 does not rise here\nw 13 10 : 0;\nw 10 03 : 0;\na 1 : 0 00 1 01;\n' >wrong.chart
+    printf 'chart OUT0 does not rise here\nwrite 13 10\nwrite 10 03\nadvance 1 = out 100 rises 1\n' >wrong.chart
     start duel wrong.chart
     status_is 1
     expect 'the last line' 'files not read: 0, bad lines: 0, charts failed: 1, differences: 0' "$(tail -n 1 out)"
-    printf '# bad\nw 13 10 0;\n' >bad.chart
+    printf 'chart bad\nwrite 13\n' >bad.chart
     start duel missing.chart bad.chart
     status_is 1
     says_of missing.chart 'No such file or directory'
-    says_of bad.chart:2:
+    says_of bad.chart:2:9: 'expected the byte to write'
     asked='./run duel >/dev/full'
     timeout "$limit" "$run" duel "$root/charts/1-examples.chart" >/dev/full 2>said
     status=$?
@@ -91,12 +91,53 @@ trial_duel_arguments() { # --help after charts and an empty argument: the usage,
     status_is 1
     says_of 'a\x1B[31mb.chart' 'No such file or directory'
     sends_nothing
-    printf '# bad\nw 13 10 0;\n' >"$name"
+    printf 'chart a\033[31mb\nwrite 13\n' >"$name"
     start duel "$name"
     status_is 1
-    says_of 'a\x1B[31mb.chart:2:'
+    says_of 'a\x1B[31mb.chart:2:9:'
     sends_nothing
     ! grep -q "$(printf '\033')" out || wrong 'standard output' 'no control character' "$(head -n 2 out)"
+}
+
+# bad_chart TEXT PLACE MESSAGE: a chart file, as printf writes it, whose one bad line gets that message; its chart `a` is not run, and `b` is.
+bad_chart() {
+    # shellcheck disable=SC2059
+    printf "$1" >x.chart
+    printf 'chart b\nreset\n' >b.chart
+    start duel x.chart b.chart
+    asked="./run duel, of '$(head -n 3 x.chart | head -c 60)'"
+    status_is 1
+    expect message "x.chart:$2 $3" "$(cat said)"
+    expect 'what was run' 'chart 1 a: not run, a line of it does not read; chart 2 b: ok, 1 records' "$(grep '^chart ' out | paste -sd ';' | sed 's/;/; /')"
+    expect 'the last line' 'files not read: 0, bad lines: 1, charts failed: 1, differences: 0' "$(tail -n 1 out)"
+}
+
+trial_duel_bad_lines() { # a line that no chart can have is told by file, line and column; its chart is not run and has failed, and those after it are run
+    bad_chart 'chart a\nreset = ?\n' 2:1: 'in the duel nobody is asked for a guess; write the answer after the ='
+    bad_chart 'chart a\nrepeat 2 cycle 41\n' 2:1: 'in the duel no record is repeated; write it as often as it comes'
+    bad_chart 'chart a\ncycle "AB"\n' 2:1: 'in the duel a cycle has no text; write a cycle for each byte'
+    bad_chart 'chart a\nreset\nexpect int 0\n' 3:1: "in the duel a chart has no 'expect'; write the answer of each record after its ="
+    bad_chart 'chart a\nreset\nexpect memory 0 00\n' 3:1: "in the duel a chart has no 'expect'; write the answer of each record after its ="
+    bad_chart 'chart a\nmemory 0 41\nreset\n' 2:1: "in the duel a chart has no 'memory'; all its bytes are 00 at first"
+    bad_chart 'chart a\nshow\nreset\n' 2:1: "in the duel a chart has no 'show'; delete the line"
+    bad_chart 'chart a\nreset = done\nguess 00: no\n' 3:1: "in the duel a chart has no 'guess'; delete the line"
+    bad_chart "chart a\n$(for i in 1 2 3 4 5; do printf 'reset\\n%.0s' 1 2 3 4 5 6 7 8 9 10 11 12 13; done)" 66:1: 'in the duel a chart has at most 64 records'
+    bad_chart 'chart a\nlend 257\nreset\n' 2:1: 'a chart has at most 256 bytes of memory'
+    bad_chart 'chart a\nreset\nlend 3\n' 3:1: 'memory and lend stand before the first record'
+    bad_chart 'chart a\nreset\nchart\n' 3:6: "expected the chart's name, at most 64 characters"
+    bad_chart 'chart a\nreset\nreset' 3:6: 'expected a line feed at the end of the last line; the file may be cut short'
+    bad_chart 'chart a\nread 10 = 100\n' 2:11: 'expected what the answer is to be: ? alone, or done, refused, a byte, call, out, int, rises, nothing, grant, leave, unit, end, free, outside, upper'
+    printf 'reset\nchart a\n' >first.chart
+    printf '# nothing\n' >none.chart
+    { printf 'chart c\nreset\nchart d\nshow\n'; yes wriet | head -n 12; printf 'chart e\nreset\n'; } >many.chart
+    start duel first.chart none.chart many.chart
+    status_is 1
+    says_of first.chart:1:1: "a record or 'lend' before the first chart; a line 'chart NAME' opens one"
+    says_of none.chart: 'there is no chart in it'
+    expect 'messages of many bad lines' 10 "$(grep -c '^many.chart:[0-9]*:1: ' said)"
+    says_of many.chart: 'bad lines: 10, and there may be more, since the rest was not read'
+    expect 'what was run' 'chart 1 a: not run, it has no record;chart 2 c: ok, 1 records;chart 3 d: not run, a line of it does not read' "$(grep '^chart ' out | paste -sd ';')"
+    expect 'the last line' 'files not read: 1, bad lines: 11, charts failed: 2, differences: 0' "$(tail -n 1 out)"
 }
 
 trial_output_whole() { # standard output goes through as it is: every byte, from a file, from a pipe, into a file, into a pipe

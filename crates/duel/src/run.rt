@@ -1,13 +1,14 @@
-// Runs the charts of files: tapes with their answers, as text. Each chart runs on both boards, from reset, over zero bytes of memory: on the second
-// record by record, on the first in lumps. Files are read in lumps too, so they may have any length.
+// Runs the charts of files: tapes with their answers, in the notation of lessons. Each chart runs on both boards, from reset, over zero bytes of memory: on
+// the second record by record, on the first in lumps. Files are read line by line, so they may have any length.
 use super::first;
 use libc::STDERR_FILENO;
 use libc::STDOUT_FILENO;
+use notation::check;
+use notation::line::Parsed;
+use notation::word;
 use rival::counts;
 use rival::counts::Tally;
 use rival::modes;
-use rival::notation;
-use rival::notation::Line;
 use rival::places;
 use rival::requests;
 use rival::show;
@@ -16,6 +17,9 @@ use rival::stretch;
 use rival::stretch::Answers;
 use rival::stretch::Memory;
 use rival::stretch::Tape;
+use words::lines;
+use words::lines::Lines;
+use words::text;
 
 // Of all files: charts, those that agreed in every record, their records, bad lines, and files that could not be read or have no chart.
 pub struct Totals {
@@ -28,7 +32,7 @@ pub struct Totals {
     pub written: bool,
 }
 
-// A chart under way: its name, the length of its memory, its records with the answers typed in, and whether all its lines read well.
+// A chart under way: its name, the length of its memory, its records with the answers typed in, and whether no line of it is bad so far.
 struct Chart {
     open: bool,
     well: bool,
@@ -40,15 +44,11 @@ struct Chart {
     typed: Answers,
 }
 
-// A file under way: its line, with its number, and what is wrong with the line that has just ended.
+// A file under way. Its bad lines are counted in `lines`, those too that are good in a lesson and bad here.
 struct Reader {
     totals: Totals,
     chart: Chart,
-    line: Line,
-    lines: u64,
-    fault: u32,
-    // there may be more to read
-    more: bool,
+    lines: Lines,
 }
 
 pub fn no_totals() -> Totals {
@@ -79,46 +79,52 @@ fn start(totals: Totals) -> Reader {
     Reader {
         totals: totals,
         chart: no_chart(),
-        line: notation::blank(),
-        lines: 0,
-        fault: notation::NOTHING,
-        more: true,
+        lines: Lines::start(false, lines::TOLD),
     }
-}
-
-// One more; no text is so long that it stays.
-fn more(n: u64) -> u64 {
-    if n < u64::MAX {
-        return n + 1;
-    }
-    n
 }
 
 fn say(words: &[u8]) {
     io::write_all(STDERR_FILENO, words);
 }
 
-// The rows are numbered as the faults of `notation` are.
+// What a chart cannot have here, though a lesson can: the rows of `complain`.
+const NOTHING: u32 = 0;
+
+const HOMELESS: u32 = 1;
+
+const FULL: u32 = 2;
+
+const ASKED: u32 = 3;
+
+const REPEATED: u32 = 4;
+
+const LETTERS: u32 = 5;
+
+const EXPECTED: u32 = 6;
+
+const FILLED: u32 = 7;
+
+const SHOWN: u32 = 8;
+
+const GUESSED: u32 = 9;
+
+// The whole line is meant: column 1.
 fn complain(path: &[u8], line: u64, fault: u32) {
     report::say_of(path, b":");
     io::print_decimal(STDERR_FILENO, line);
-    say(b": ");
+    say(b":1: ");
     show::write_row(
         STDERR_FILENO,
         b"
-a line begins with z, w, r, l, k, a, c, x, m, # or /
-neither a hex digit (0-9, A-F) nor a blank, a colon or a semicolon
-the colon is missing
-the semicolon is missing
-there is more after the semicolon
-too many numbers
-too few numbers
-a number is over FF, or the pulses are over FFFFFFFF
-a chart has to have a name
-a name has 64 letters at most
-a record or a memory before the first chart's name
-a chart has 64 records at most
-the file ends inside this line",
+a record or 'lend' before the first chart; a line 'chart NAME' opens one
+in the duel a chart has at most 64 records
+in the duel nobody is asked for a guess; write the answer after the =
+in the duel no record is repeated; write it as often as it comes
+in the duel a cycle has no text; write a cycle for each byte
+in the duel a chart has no 'expect'; write the answer of each record after its =
+in the duel a chart has no 'memory'; all its bytes are 00 at first
+in the duel a chart has no 'show'; delete the line
+in the duel a chart has no 'guess'; delete the line",
         fault,
     );
     say(b"\n");
@@ -247,22 +253,40 @@ fn close(chart: Chart, totals: Totals) -> Totals {
     let mut next = totals;
     next.written = totals.written & headed & told.written;
     if told.agreed {
-        next.agreed = more(totals.agreed);
+        next.agreed = text::more(totals.agreed);
         return next;
     }
     next
 }
 
-// A chart's name: the chart before it is over, and it opens.
-fn open(reader: Reader) -> Reader {
+// A chart's name, and what stands after it on its line.
+fn copy_name(line: &[u8; 1000], from: usize, name: &mut [u8; 64]) {
+    let at = from % 1000;
+    let mut i: usize = 0;
+    while i < 64 {
+        name[i] = word::byte_at(line, at + i);
+        i += 1;
+    }
+}
+
+// How long the name is.
+fn length_of(from: usize, to: usize) -> usize {
+    if to < from {
+        return 0;
+    }
+    to - from
+}
+
+// The line that opens a chart: the chart before it is over.
+fn open(reader: Reader, line: &[u8; 1000], p: Parsed) -> Reader {
     let mut totals = close(reader.chart, reader.totals);
-    totals.charts = more(totals.charts);
-    let line = reader.line;
-    let name = line.name;
+    totals.charts = text::more(totals.charts);
+    let mut name = [0u8; 64];
+    copy_name(line, p.from, &mut name);
     let mut chart = no_chart();
     chart.open = true;
     chart.name = name;
-    chart.length = line.length;
+    chart.length = length_of(p.from, p.to);
     let mut next = reader;
     next.totals = totals;
     next.chart = chart;
@@ -270,9 +294,9 @@ fn open(reader: Reader) -> Reader {
 }
 
 // A record joins its chart.
-fn joined(chart: Chart, line: Line) -> Chart {
-    let record = line.record;
-    let answer = line.answer;
+fn joined(chart: Chart, p: Parsed) -> Chart {
+    let record = p.bytes;
+    let answer = p.expected;
     let n = chart.records % 64;
     let mut tape = chart.tape;
     let mut typed = chart.typed;
@@ -285,173 +309,162 @@ fn joined(chart: Chart, line: Line) -> Chart {
     next
 }
 
-fn join(reader: Reader) -> Reader {
+fn join(reader: Reader, p: Parsed) -> Reader {
     let mut totals = reader.totals;
-    totals.records = more(totals.records);
+    totals.records = text::more(totals.records);
     let mut next = reader;
     next.totals = totals;
-    next.chart = joined(reader.chart, reader.line);
+    next.chart = joined(reader.chart, p);
     next
 }
 
 // The chart's memory has another length.
-fn lend(reader: Reader) -> Reader {
+fn lend(reader: Reader, length: u32) -> Reader {
     let mut chart = reader.chart;
-    chart.memory = second::index(reader.line.memory);
+    chart.memory = second::index(length);
     let mut next = reader;
     next.chart = chart;
     next
 }
 
-// What is wrong with the line that has ended: in itself, or where it stands.
-fn fault_of(chart: Chart, line: Line) -> u32 {
-    let fault = notation::fault_of(line);
-    let whole = line.part == notation::WHOLE;
-    if (fault != notation::NOTHING) | !(whole | (line.part == notation::LENT)) {
-        return fault;
+// A record, where a chart is open or not and has so many records.
+fn fault_of_record(open: bool, records: usize, p: Parsed) -> u32 {
+    if !open {
+        return HOMELESS;
     }
-    if chart.open {
-        return second::choose(
-            whole & (chart.records >= 64),
-            notation::FULL,
-            notation::NOTHING,
-        );
+    if p.check == Parsed::ASKED {
+        return ASKED;
     }
-    notation::HOMELESS
+    if p.times != 1 {
+        return REPEATED;
+    }
+    if p.from < p.to {
+        return LETTERS;
+    }
+    if records >= 64 {
+        return FULL;
+    }
+    NOTHING
 }
 
-// A line that reads well.
-fn obey(reader: Reader) -> Reader {
-    let part = reader.line.part;
-    match part {
-        notation::NAME => open(reader),
-        notation::WHOLE => join(reader),
-        notation::LENT => lend(reader),
+// What is wrong with a line that is good in a lesson. (Those of `lesson try` alone are bad there too.)
+fn fault_of(open: bool, records: usize, p: Parsed) -> u32 {
+    let kind = p.kind;
+    match kind {
+        Parsed::RECORD => fault_of_record(open, records, p),
+        Parsed::LEND => second::choose(open, NOTHING, HOMELESS),
+        Parsed::EXPECT => EXPECTED,
+        Parsed::EXPECT_MEMORY => EXPECTED,
+        Parsed::MEMORY => FILLED,
+        Parsed::SHOW => SHOWN,
+        Parsed::GUESS => GUESSED,
+        _ => NOTHING,
+    }
+}
+
+// A bad line is told and counted, and its chart is not run. At the last that is told, reading stops.
+fn refuse(path: &[u8], reader: Reader, fault: u32) -> Reader {
+    let mut lines = reader.lines;
+    complain(path, lines.line, fault);
+    let bad = text::more(lines.bad);
+    lines.bad = bad;
+    lines.more = bad < lines::TOLD;
+    lines.stopped = lines::TOLD <= bad;
+    let mut chart = reader.chart;
+    chart.well = false;
+    let mut next = reader;
+    next.lines = lines;
+    next.chart = chart;
+    next
+}
+
+fn take_line(path: &[u8], reader: Reader, line: &[u8; 1000], p: Parsed) -> Reader {
+    let fault = fault_of(reader.chart.open, reader.chart.records, p);
+    if fault != NOTHING {
+        return refuse(path, reader, fault);
+    }
+    let kind = p.kind;
+    match kind {
+        Parsed::CHART => open(reader, line, p),
+        Parsed::RECORD => join(reader, check::whole(p)),
+        Parsed::LEND => lend(reader, p.number),
         _ => reader,
     }
 }
 
-// A bad line is counted, and its chart is not run.
-fn with_fault(reader: Reader, fault: u32) -> Reader {
-    let mut totals = reader.totals;
-    totals.bad = more(totals.bad);
+// Bad lines that were passed over on the way to the next good one are the open chart's.
+fn after(reader: Reader, lines: Lines) -> Reader {
     let mut chart = reader.chart;
-    chart.well = false;
+    chart.well = reader.chart.well & (lines.bad == reader.lines.bad);
     let mut next = reader;
-    next.totals = totals;
+    next.lines = lines;
     next.chart = chart;
-    next.fault = fault;
-    next
-}
-
-// A line feed: the line is whole.
-fn end_line(reader: Reader) -> Reader {
-    let fault = fault_of(reader.chart, reader.line);
-    if fault == notation::NOTHING {
-        return fresh_line(obey(reader));
-    }
-    fresh_line(with_fault(reader, fault))
-}
-
-fn fresh_line(reader: Reader) -> Reader {
-    let mut next = reader;
-    next.line = notation::blank();
-    next.lines = more(reader.lines);
-    next
-}
-
-fn take_byte(reader: Reader, b: u8) -> Reader {
-    if b == b'\n' {
-        return end_line(reader);
-    }
-    let mut next = reader;
-    next.line = notation::take(reader.line, b);
-    next
-}
-
-// Ten bad lines are told, and then no more.
-fn told(path: &[u8], reader: Reader) -> Reader {
-    if reader.fault == notation::NOTHING {
-        return reader;
-    }
-    if reader.totals.bad < 11 {
-        complain(path, reader.lines, reader.fault);
-    }
-    let mut next = reader;
-    next.fault = notation::NOTHING;
-    next
-}
-
-fn take_bytes(path: &[u8], reader: Reader, lump: &[u8]) -> Reader {
-    let mut next = reader;
-    let mut i: usize = 0;
-    while i < lump.len() {
-        let b = lump[i];
-        i += 1;
-        next = told(path, take_byte(next, b));
-    }
     next
 }
 
 // A file that could not be read, or that has no chart.
 fn with_unread(totals: Totals) -> Totals {
     let mut next = totals;
-    next.unread = more(totals.unread);
+    next.unread = text::more(totals.unread);
     next
 }
 
-fn ended(reader: Reader) -> Reader {
-    let mut next = reader;
-    next.more = false;
-    next
-}
-
-// The file cannot be read to its end: the open chart is not run.
-fn cut_off(reader: Reader) -> Reader {
-    let mut chart = reader.chart;
-    chart.well = false;
-    let mut next = ended(reader);
-    next.totals = with_unread(reader.totals);
-    next.chart = chart;
-    next
-}
-
-// One read.
-fn take_lump(fd: i32, path: &[u8], reader: Reader) -> Reader {
-    let mut lump = io::buffer();
-    let got = libc::read(fd, &mut lump);
-    if got < 0 {
-        report::fail(path);
-        return cut_off(reader);
+fn counted(totals: Totals, lines: Lines) -> Totals {
+    let mut next = totals;
+    next.bad = totals.bad % 4294967296 + lines.bad % 4294967296;
+    if lines.failed {
+        return with_unread(next);
     }
-    if got == 0 {
-        return ended(reader);
-    }
-    let n = io::count(got, &lump);
-    take_bytes(path, reader, &lump[..n])
+    next
 }
 
-// The end of a file: its last line has to be whole, and its last chart is over.
+// The end of a file, or of what is read of it: the open chart is over, and not run where there may be more of it.
 fn end_file(path: &[u8], reader: Reader) -> Totals {
-    if notation::is_begun(reader.line) {
-        let last = told(path, fresh_line(with_fault(reader, notation::CUT)));
-        return close(last.chart, last.totals);
+    let lines = reader.lines;
+    if lines.stopped & (lines::TOLD <= lines.bad) {
+        report::say_of(
+            path,
+            b": bad lines: 10, and there may be more, since the rest was not read\n",
+        );
     }
-    close(reader.chart, reader.totals)
+    let mut chart = reader.chart;
+    chart.well = reader.chart.well & !(lines.failed | lines.stopped);
+    close(chart, counted(reader.totals, lines))
 }
 
-fn take_file(fd: i32, path: &[u8], totals: Totals) -> Totals {
+// No file has so many lines.
+fn cut_off(reader: Reader) -> Reader {
+    let mut lines = reader.lines;
+    lines.failed = true;
+    let mut next = reader;
+    next.lines = lines;
+    next
+}
+
+fn take_lines(
+    fd: i32,
+    path: &[u8],
+    line: &mut [u8; 1000],
+    lump: &mut [u8; 65536],
+    totals: Totals,
+) -> Totals {
     let mut reader = start(totals);
     let mut turns = u64::MAX;
     while turns > 0 {
-        reader = take_lump(fd, path, reader);
-        if !reader.more {
+        let taken = lines::take(fd, path, line, lump, reader.lines);
+        reader = take_line(path, after(reader, taken.lines), line, taken.parsed);
+        if !reader.lines.more {
             return end_file(path, reader);
         }
         turns -= 1;
     }
-    // No file is so long.
     end_file(path, cut_off(reader))
+}
+
+fn take_file(fd: i32, path: &[u8], totals: Totals) -> Totals {
+    let mut line = [0u8; 1000];
+    let mut lump = [0u8; 65536];
+    take_lines(fd, path, &mut line, &mut lump, totals)
 }
 
 // A file with no chart, and nothing wrong, is told and counted.

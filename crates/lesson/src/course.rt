@@ -1,11 +1,21 @@
 // The arguments, one after another: words start a command, and files belong to the last one.
 use crate::bench;
-use crate::output;
 use libc::STDIN_FILENO;
-use words::notation;
+use notation::word;
+use words::filters;
+use words::output;
+
+// What is done with a command's files, beside what the bench does.
+const ASSEMBLE: u8 = 4;
+
+const LIST: u8 = 5;
+
+const EXPLAIN: u8 = 6;
+
+const CARD: u8 = 7;
 
 // What an argument is where it is no command's word.
-const FILE: u8 = 255;
+const FILE: u8 = 8;
 
 // How far the arguments are taken.
 pub struct Course {
@@ -53,7 +63,7 @@ impl Course {
         self.with(open_file(self.mode, name))
     }
 
-    // No more files belong to the command under way. A filter that had none takes standard input.
+    // No more files belong to the command under way. One that had none takes standard input, or all cards.
     pub fn end_command(self) -> Course {
         if self.has_file {
             return self;
@@ -61,8 +71,8 @@ impl Course {
         if self.checks {
             return self.with(check_no_file(self.mode));
         }
-        if bench::is_filter(self.mode) {
-            return self.with(bench::sift(self.mode, STDIN_FILENO, b"lesson: standard input"));
+        if takes_one(self.mode) {
+            return self.with(run_without_file(self.mode));
         }
         self
     }
@@ -76,13 +86,49 @@ impl Course {
     }
 }
 
+// Commands that take one file, or none.
+fn takes_one(mode: u8) -> bool {
+    bench::PIECES < mode
+}
+
+// The words are in the order of what they stand for, but for RUN, which has none.
 fn command(word: &[u8]) -> u8 {
-    match notation::which(b"assemble list explain pieces ", word, 0, word.len()) {
-        0 => bench::ASSEMBLE,
-        1 => bench::LIST,
-        2 => bench::EXPLAIN,
-        3 => bench::PIECES,
-        _ => FILE,
+    word::which(
+        b"\n listing pieces try assemble list explain card ",
+        word,
+        0,
+        word.len(),
+    )
+}
+
+fn run_without_file(mode: u8) -> u8 {
+    if mode != CARD {
+        return run_on(mode, STDIN_FILENO, b"lesson: standard input");
+    }
+    if ports::print_index() {
+        return report::WELL;
+    }
+    output::fail()
+}
+
+fn run_on(mode: u8, fd: i32, path: &[u8]) -> u8 {
+    match mode {
+        bench::TRY => bench::run_typed(fd, path),
+        ASSEMBLE => filters::assemble(fd, path),
+        LIST => filters::tell(filters::LIST, fd, path),
+        EXPLAIN => filters::tell(filters::EXPLAIN, fd, path),
+        _ => bench::run_file(mode, fd, path),
+    }
+}
+
+fn print_card(name: &[u8]) -> u8 {
+    match ports::print_card(name) {
+        0 => report::WELL,
+        1 => {
+            output::tell(name, 0x1e, 0);
+            report::FAILED
+        }
+        _ => output::fail(),
     }
 }
 
@@ -93,10 +139,11 @@ fn tell_wrong(name: &[u8], sentence: u8) -> u8 {
 }
 
 fn check_no_file(mode: u8) -> u8 {
-    if mode == bench::PIECES {
-        return tell_wrong(b"lesson", 0x1d);
+    match mode {
+        bench::LISTING => tell_wrong(b"lesson", 0x1d),
+        bench::PIECES => tell_wrong(b"lesson", 0x1d),
+        _ => report::WELL,
     }
-    report::WELL
 }
 
 // Whether an argument can be a file of the command under way.
@@ -107,11 +154,13 @@ fn check_file(mode: u8, had_file: bool, name: &[u8]) -> u8 {
     if name[0] == b'-' {
         return check_option(name);
     }
-    if is_mistyped(name) {
-        return tell_wrong(name, 0x19);
+    if mode != CARD {
+        if is_mistyped(name) {
+            return tell_wrong(name, 0x19);
+        }
     }
     if had_file {
-        if bench::is_filter(mode) {
+        if takes_one(mode) {
             return tell_wrong(name, 0x1b);
         }
         return report::WELL;
@@ -121,7 +170,7 @@ fn check_file(mode: u8, had_file: bool, name: &[u8]) -> u8 {
 
 // Whoever asks for help gets the usage alone.
 fn check_option(name: &[u8]) -> u8 {
-    if notation::which(b"--help -h ", name, 0, name.len()) < 2 {
+    if word::which(b"--help -h ", name, 0, name.len()) < 2 {
         return report::USAGE;
     }
     tell_wrong(name, 0x1a)
@@ -163,12 +212,15 @@ fn is_in_row(place: u8) -> bool {
 }
 
 fn open_file(mode: u8, path: &[u8]) -> u8 {
+    if mode == CARD {
+        return print_card(path);
+    }
     let fd = os::open_read(path);
     if fd < 0 {
         report::fail(path);
         return report::FAILED;
     }
-    let status = bench::take_file(mode, fd, path);
+    let status = run_on(mode, fd, path);
     libc::close(fd);
     status
 }

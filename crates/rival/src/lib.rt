@@ -1,7 +1,6 @@
-// The parts of the program `duel` that do not touch the first board: tapes for both boards, the charts' notation, the counts and what is printed.
+// The parts of the program `duel` that do not touch the first board: tapes for both boards, the counts and what is printed.
 pub mod counts;
 pub mod modes;
-pub mod notation;
 pub mod places;
 pub mod requests;
 pub mod show;

@@ -1,9 +1,9 @@
 // Which sentence says what an answer is, of a refusal why, and of an acknowledge which chip gave it and why INT is low.
 use super::asked;
-use super::notation;
 use super::sentences;
 use super::text::Text;
 use icu::Icu;
+use notation::listing;
 
 // Which way a unit goes, as D3-D2 of its channel's mode say it, with bit 2 where it is a word, as D0 says.
 pub const TO_MEMORY: u8 = 1;
@@ -21,18 +21,18 @@ pub fn way(mode: u8) -> u8 {
 // An answer by itself: which way a unit went, and which port was read, is not known. A unit with an upper byte is a word; one without may be.
 pub fn words_alone(a: [u8; 16]) -> Text {
     if a[0] != 0 {
-        return sentences::answered(0x20 + capped(a[0]) % 8, a);
+        return sentences::answered(0x20 + capped(a[0]) % 8, a, 0);
     }
     let mut unit = UNKNOWN;
     if a[13] != 0 {
         unit = UNKNOWN + WORD;
     }
-    sentences::answered(done(a[1], a[4], 1), facts(a, unit))
+    sentences::answered(done(a[1], a[4], 0xff), facts(a, unit), 0)
 }
 
 // The operation that an answer is to.
 pub fn operation(a: [u8; 16]) -> Text {
-    sentences::answered(0x10 + capped(a[1]) % 8, a)
+    sentences::answered(0x10 + capped(a[1]) % 8, a, 0)
 }
 
 fn capped(x: u8) -> u8 {
@@ -42,13 +42,10 @@ fn capped(x: u8) -> u8 {
     7
 }
 
-// What was done. `kind` is byte 4: the first byte of a CALL, or what a DMA cycle came to. The byte at port 00, or 30 of the slave, is a register with a bit for each level.
+// What was done. `kind` is byte 4: the first byte of a CALL, or what a DMA cycle came to.
 pub fn done(op: u8, kind: u8, port: u8) -> u8 {
     match op {
-        2 => match asked::master_port(port) {
-            0 => 0x02,
-            _ => 0x01,
-        },
+        2 => read(asked::master_port(port)),
         4 => match kind {
             0xcd => 0x04,
             _ => 0x03,
@@ -64,6 +61,28 @@ pub fn done(op: u8, kind: u8, port: u8) -> u8 {
     }
 }
 
+// By port: what a byte is that was read there.
+fn read(port: u8) -> u8 {
+    match port {
+        0x00 => 0x02,
+        0x01 => 0x30,
+        0x10 => 0x31,
+        0x11 => 0x31,
+        0x12 => 0x31,
+        0x21 => 0x32,
+        0x22 => 0x33,
+        0x23 => 0x33,
+        0x24 => 0x34,
+        0x25 => 0x34,
+        0x26 => 0x34,
+        0x28 => 0x35,
+        0x2a => 0x36,
+        0x2b => 0x37,
+        0x2f => 0x38,
+        _ => 0x01,
+    }
+}
+
 // What follows the bytes of an acknowledge, by the chip that gave them and its lines. `slave` is 1 where that is the slave.
 pub fn remark(chip: Icu, lines: u8, slave: u8) -> Text {
     let mut f = [0u8; 16];
@@ -71,15 +90,15 @@ pub fn remark(chip: Icu, lines: u8, slave: u8) -> Text {
     f[14] = slave;
     if chip.int(lines) {
         f[12] = icu::highest(asking, chip.lowest);
-        return sentences::answered(0x0b, f);
+        return sentences::answered(0x0b, f, 0);
     }
     f[12] = cause_of_low(chip.irr(lines), asking);
     f[13] = icu::highest(chip.isr, chip.lowest);
-    sentences::answered(0x0a, f)
+    sentences::answered(0x0a, f, 0)
 }
 
 // Why INT is low: 0 no level asks, 1 every level that asks is masked, 2 none of the others outranks what is in service.
-fn cause_of_low(irr: u8, asked: u8) -> u8 {
+pub fn cause_of_low(irr: u8, asked: u8) -> u8 {
     if irr == 0 {
         return 0;
     }
@@ -95,8 +114,11 @@ pub fn facts(a: [u8; 16], way: u8) -> [u8; 16] {
         return a;
     }
     let mut f = a;
+    f[3] = 0;
     f[4] = way;
-    f[12] = end(a[6], a[7]);
+    f[6] = 0;
+    f[7] = (a[7] == 1) as u8;
+    f[12] = (a[6] == 1) as u8;
     f[14] = 0;
     f[15] = 0;
     if is_odd_word(a, way) {
@@ -130,21 +152,11 @@ pub fn is_outside(a: [u8; 16]) -> bool {
     a[12] == 1
 }
 
-fn end(last: u8, free: u8) -> u8 {
-    if last == 1 {
-        return 2;
-    }
-    if free == 1 {
-        return 1;
-    }
-    0
-}
-
 // By the facts of a refusal.
 pub fn reason(f: [u8; 16]) -> u8 {
     match f[8] {
         1 => 0x10,
-        2 => malformed(f[0], f[1], f[2], notation::is_zero_later(f), f[6] | f[7]),
+        2 => malformed(f[0], f[1], f[2], listing::is_zero_later(f), f[6] | f[7]),
         3 => early(
             f[0],
             asked::master_port(f[1]),
@@ -255,4 +267,15 @@ fn unbuilt(port: u8, x: u8) -> u8 {
         },
         _ => 0x4c,
     }
+}
+
+// 0 for no bit, 1 for one, 2 for several: a sentence has other words for each.
+pub fn how_many(x: u8) -> u8 {
+    if x == 0 {
+        return 0;
+    }
+    if x & (x - 1) == 0 {
+        return 1;
+    }
+    2
 }

@@ -1,21 +1,21 @@
 // What the filters make of a record and of an answer.
 use super::answered;
-use super::notation;
 use super::sentences;
 use super::text;
 use super::text::Text;
+use notation::listing;
 
 // The record's bytes and its line, and below them the answer by itself.
 pub fn print_pieces(number: u64, r: [u8; 8], a: [u8; 16]) -> bool {
     let facts = sentences::facts(r, 0, 0, 0, 0);
     let bytes = sentences::asked(0x0c, facts);
-    let line = sentences::asked(notation::sentence(facts), facts);
-    let row = Text::number(number)
+    let line = sentences::asked(listing::sentence(facts), facts);
+    let row = left(number).put(b' ')
+        .pad(13)
+        .and(bytes)
         .put(b' ')
-        .part(bytes, 0, bytes.n)
-        .put(b' ')
-        .pad(37)
-        .part(line, 0, line.n)
+        .pad(41)
+        .and(line)
         .put(b'\n');
     if row.print() {
         return print_answer(number, a);
@@ -23,9 +23,14 @@ pub fn print_pieces(number: u64, r: [u8; 8], a: [u8; 16]) -> bool {
     false
 }
 
+// The number of a record or an answer.
+fn left(number: u64) -> Text {
+    Text::new().number(number, 5)
+}
+
 pub fn print_answer(number: u64, a: [u8; 16]) -> bool {
     text::print_row(
-        number,
+        left(number),
         answered::operation(a),
         answered::words_alone(a),
         a[3],

@@ -11,11 +11,12 @@
 //   *BSW  which of these bits are set
 //   {BSWnone|one|two}  the words for that number, and nothing where there are none; a choice holds no other choice
 //   &0 and &1  two numbers beside the facts
-use crate::notation;
+//   ^     a bar, which a sentence cannot have by itself
 use crate::text;
 use crate::text::Text;
 use libc::STDERR_FILENO;
 use libc::STDOUT_FILENO;
+use notation::word;
 
 // A record in the notation, and below it what a record asks for, in the chips' own words. The facts: 0 to 7 are the record, 8 the DMA channel that is
 // selected, 9 whether its base is, A the byte of a count (1 the low one, 2 the high one), B whether the count is latched. Of the port's interrupt chip C is what
@@ -46,7 +47,7 @@ pub fn asked(n: u8, facts: [u8; 16]) -> Text {
 15 {102INTP lines|gates|DMA requests|slave lines}: $2 (high:*208)
 16 DMA cycle, device has $2 $3{101|, END}
 
-20 {E01|slave }IW1: $2 ({231edge|level}, {211extended, }{201no IW4|IW4 follows})
+20 {E01|slave }IW1: $2 ({231edge|level}, {211extended|single}, CALL gap {2218|4}, {201no IW4|IW4 follows})
 21 {E01|slave }MCW{203|| read IRR| read ISR| poll| poll| poll| poll}: $2
 22 {E01|slave }PFCW {253rotation in self-FI off|finish|no operation|finish level %203|rotation in self-FI on|finish and rotate|level %203 lowest|finish level %203, make it lowest}: $2
 24 {E01|slave }IW2 or IMR: $2
@@ -69,7 +70,7 @@ pub fn asked(n: u8, facts: [u8; 16]) -> Text {
 42 channel %802 {103||count low|count high|address low|address middle|address high}: $2{901| (base)}
 43 DMA device control: $2{223| (disabled)|| (disabled)| (rotate)| (rotate, disabled)| (rotate)| (rotate, disabled)}
 44 DMA device control high: $2
-45 channel %802 mode: $2 ({262demand|single|block|cascade}, {222verify|to memory|to device|direction 11}{201|, words}{251|, downwards}{241|, autoinitialize})
+45 channel %802 mode: $2 ({262demand|single|block|cascade}, {222verify|to memory|to device|direction 11}, {201bytes|words}{251|, downwards}{241|, autoinitialize})
 46 DMA {102temporary low|temporary high|request register}: $2
 47 DMA masks: $2 (masked:*204)
 48 read DMA selection
@@ -84,25 +85,30 @@ pub fn asked(n: u8, facts: [u8; 16]) -> Text {
     )
 }
 
-// What was done, and the operation that an answer is to. The facts are the answer. Of a unit 4 says which way it went, as D3-D2 of a mode do, or 3 where that is not
-// known, with bit 2 where it is a word; C how it ended (1 with its service, 2 as that and as the last one), with bit 2 where E is not 0; E has bit 0 where it is a word
-// at an odd address, and bit 1 where it is past the end of memory, and then F is what 4 is, else 0. 0A and 0B follow the bytes of an acknowledge, with the INT of the
-// chip that answers low or high: E says whether that is the slave, C why its INT is low or the level that it gives, D its highest level in service.
-pub fn answered(n: u8, facts: [u8; 16]) -> Text {
+// What was done, and the operation that an answer is to. The facts are the answer, but F of a read is 1 where another was expected. Of a counter's byte E has bit 0 where
+// the high byte is next, and bit 1 where it is of a latch; of the DMA chip's E is the channel that is selected or whether an end bit was set, D whether the base is, 8 to B a
+// count or an address. Of an acknowledge F is the level of a CALL, where E is not 0. Of a cycle that did nothing C has the channels that ask, D is how many (2 for several),
+// E whether the chip is disabled. Of a unit 4 says which way it went, as D3-D2 of a mode do, or 3 where that is not known, with bit 2 where it is a word; C is 1 where
+// it was the last one, with bit 2 where E is not 0, and 7 where the bus is free; E has bit 0 where it is a word at an odd address, and bit 1 where it is past the end of
+// memory, and then F is what 4 is, with bit 3 in the place of bit 2 where the upper byte of a word is past it alone, else 0; 3 is an upper byte that was not used, and 6 is 1 where the channel starts anew and 2 where units are left, &0 of them. 0A and 0B
+// follow the bytes of an acknowledge, with the INT of the chip that answers low or high: E says whether that is the slave, C why its INT is low or the level that it gives, D
+// its highest level in service.
+pub fn answered(n: u8, facts: [u8; 16], first: u64) -> Text {
     fill(
         b"
 00 done
-01 reads $2
-02 reads $2 (levels:*208)
-03 vector $2
-04 CALL $4 $5 $6
+01 read{F01s|} $2
+02 read{F01s|} $2 (levels:*208)
+03 vector $2 (level %203)
+04 CALL $6$5{E01| (level %F08)}
 05 rises: OUT0 =4, OUT1 =8, OUT2 =C
-06 nothing: no channel to serve
+06 nothing{E01|: the chip is disabled (28, D2)}{D02|: channel*C04 asks but is masked (2F)|: channels*C04 ask but are masked (2F)|: no request is high}
 07 channel %508 gets the bus; no unit
 08 channel %508 leaves the bus; no unit
-09 channel %508: {403verified|$2 to memory|$2 from memory|$2 at|word verified|$2 $D to memory|$2 $D from memory|$2 $D at} @8{E02|: odd, so ~8 and @8|: past the end of memory|: odd, so ~8 and @8; past the end of memory}{F03|, lost|, reads FF|, it or a word's upper byte||, both lost|, both read FF|, the upper byte or both}{C03|, bus free|, end, bus free|||; bus free|; end, bus free}
+09 channel %508: {403verified|$2 to memory|$2 from memory|$2 at|word verified|$2 $D to memory|$2 $D from memory|$2 $D at} @8{E02|: odd, so ~8 and @8|: past the end of memory|: odd, so ~8 and @8; past the end of memory}{F04|, lost|, reads FF|, it or a word's upper byte||, both lost|, both read FF|, the upper byte or both||, the upper byte lost|, the upper byte reads FF}{C03|, end||||; end}{602|: address and count from base again|; units left: &0}{701|, bus free}
 0A :{E01| level 7, but the slave's} INT is low, {C02no level asks|every level that asks is masked|level %D08 is in service and not outranked}; answered as {E01|its }level 7
 0B {E01|: level 7, and the slave gives its level %C08}
+0C  ($3 not used)
 
 10 reset
 11 write
@@ -120,6 +126,84 @@ pub fn answered(n: u8, facts: [u8; 16]) -> Text {
 25 5: this board never gives it
 26 6: count 1 in mode 2 or 3
 27 %008: no status that a record can have
+
+30 read{F01s|} $2 (masked:*208)
+31 read{F01s|} $2{E02| (the high byte is next)| (latched; the latch is free now)| (latched; the high byte is next)}
+32 read{F01s|} $2 (channel %E02{D01|, base})
+33 read{F01s|} $2 (count $9$8)
+34 read{F01s|} $2 (address @8)
+35 read{F01s|} $2 ({223enabled|disabled|enabled|disabled|rotate, enabled|rotate, disabled|rotate, enabled|rotate, disabled})
+36 read{F01s|} $2 ({262demand|single|block|cascade}, {222verify|to memory|to device|direction 11}, {201bytes|words}{251|, downwards}{241|, autoinitialize})
+37 read{F01s|} $2 (ended:*204; asking:*244{E01|; end bits now clear})
+38 read{F01s|} $2 (masked:*204)
+",
+        n,
+        facts,
+        first,
+        0,
+    )
+}
+
+// What came of a record. Each piece begins with a semicolon and a space, or is empty. 10 is of the lines: 0 the levels that ask anew, 2 those that ask no more, 6 and 8 the
+// same of the slave, and after each how many these are (2 for several); 4 what became of INT, 5 the level in service that keeps it low, A what became of the slave's INT; B and
+// D the OUTs that rose and fell. 20 to 27 are of an interrupt chip's words: 0 the byte, 1 whether it is the slave's, 2 the levels that were finished, 3 how many, 4 those in
+// service, 5 what it awaits, 6 its first-ranked level. 30 to 34 are of a counter: 2 and 3 its latch, 4 what becomes of the count before this one, or when this one is taken over, 5 and 6 the
+// count. 40 to 43 are of the DMA chip: 8 and 9 a count, A the units that it stands for, 4 an address; for 42 0 the channels that ask and may be served, 2 those that are masked,
+// and how many, and 4 whether the chip is disabled. 50 is of gates: 0 the counters that will load, 2 those that stand still, 4 those that run on, and how many. 60 has the first
+// pulses at which an OUT rose, C its number, D how many are named, E whether there are more, &0 of them; 61 a counter's value and its number.
+pub fn happened(n: u8, facts: [u8; 16], first: u64) -> Text {
+    fill(
+        b"
+10 {B01|; OUT0 rises}{B11|; OUT1 rises}{B21|; OUT2 rises}{D01|; OUT0 falls}{D11|; OUT1 falls}{D21|; OUT2 falls}{702|; slave level*608 asks|; slave levels*608 ask}{902|; slave level*808 asks no more|; slave levels*808 ask no more}{A03|; slave INT rises|; slave INT falls|; slave INT stays low: masked|; slave INT stays low: level %C08 in service|; slave INT stays low: the slave is not ready|; slave INT stays low: masked, or level %C08 in service}{102|; level*008 asks|; levels*008 ask}{302|; level*208 asks no more|; levels*208 ask no more}{403|; INT rises|; INT falls|; INT stays low: masked|; INT stays low: level %508 in service|; INT stays low: the chip is not ready|; INT stays low: masked, or level %508 in service}
+
+20 ; level*208 finished{071|, and is lowest now}; in service:*408
+21 ; nothing was in service: no effect
+22 ; level %003 was not in service{071: no effect|; it is lowest now}
+23 ; level %603 is highest now
+24 ; no effect
+25 ; reads at port {1010|3}0 show {001IRR|ISR} now
+27 {503|; waits for IW2|; waits for IW4|; ready|; waits for IW3}
+28 ; in service:*408{101|; slave in service:*208}
+
+30 ; waits for a count
+31 ; a latch waits to be read: no effect
+32 ; holds $3$2 until it is read
+33 ; waits for the high byte{402|; the old count runs on|; counting stops}
+34 ; count $6$5{701| (65536)}: taken over {402at the next pulse|at the pulse after GATE rises|when the old count has run out|at the end of this half}
+
+40 ; count $9$8{401|: =A unit}{411|s}
+41 ; address @4
+42 {102|; channel*004 asks|; channels*004 ask}{302|; channel*204 asks but is masked (2F)|; channels*204 ask but are masked (2F)}{401|; the chip is disabled (28, D2)}
+43 ; every channel is masked
+
+50 {102|; counter*003 loads at the next pulse|; counters*003 load at the next pulse}{302|; counter*203 stands still|; counters*203 stand still}{502|; counter*403 runs on|; counters*403 run on}
+
+60 ; OUT%C02 rose at pulse{D02| =0|s =0 =4|s =0 =4 =8}{E01| and &0 times more}
+61 ; counter %C02 at $1$0
+62 ; no OUT rose
+",
+        n,
+        facts,
+        first,
+        0,
+    )
+}
+
+// The state of a chip. 0 and 1 are of an interrupt chip: 1 its ISR, 2 its IRR, 3 its IMR, 4 why INT is low or that it is high, 5 the level, 6 what it awaits, 7 IW1, 8 IW2,
+// 9 whether it is in vector mode, A its lowest level. 2 is of a counter: 0 and 1 its value, 2 and 3 the count, 4 the mode, 5 OUT, 6 GATE, 7 and 8 the latch, 9 what holds,
+// C its number. 4 is of a channel: 0 and 4 its addresses, 8 and A its counts, C its number, D whether it is masked, E its mode. 5 is of the DMA chip, and 6 has the levels that
+// an answer shows.
+pub fn shown(n: u8, facts: [u8; 16]) -> Text {
+    fill(
+        b"
+00 {001master|slave}: ISR*108 ^ IRR*208 ^ IMR*308 ^ INT {403low: no level asks|low: every level that asks is masked|low: level %508 in service|high: level %508 asks}
+01 {001master|slave}: waits for {603IW1|IW2|IW4||IW3} at port {0010|3}{6030|1|1||1}
+02 counter %C02: mode %408, {A01no count yet|count $3$2}, at $1$0, OUT %508, GATE %608{931|, not taken over yet}{941|, loads at the next pulse}{901|, latched $8$7}{911|, half written}{921|, half read}
+03 counter %C02: no mode
+04 channel %C02: @0, count $9$8, base @4/$B$A, masked {D01no|yes}, mode $E
+06 OUT %001%011%021, INT %031
+07 {001master|slave}: {731edge|level} trigger, {901CALL|vectors from $8}, lowest level %A08, reads show {B01IRR|ISR}{C01|, self-FI}{D01|, rotation in self-FI}
+05 DMA: {0018|16}-bit bus, {101enabled|disabled}, asking:*204, ended:*304, {401bus free|channel %508 has the bus}
 ",
         n,
         facts,
@@ -154,7 +238,7 @@ pub fn refused(n: u8, facts: [u8; 16]) -> Text {
 2F 2: there are four DMA requests, bits 0 to 3
 30 2: there is no group $1 of lines; they go from 00 to 03
 
-31 3: out of turn, {F01|the master is extended, and }the {C01interrupt chip|slave} waits for {B03IW1|IW2|IW4||IW3} at port {C010|3}{B030|1|1||1}
+31 3: out of turn, {F01|the master is extended, and }the {C01master|slave} waits for {B03IW1|IW2|IW4||IW3} at port {C010|3}{B030|1|1||1}
 32 3: out of turn, the master is {D11extended|single} and the slave is {E11extended|single}
 33 3: out of turn, the master is in {D01CALL|vector} mode and the slave in {E01CALL|vector} mode
 34 3: out of turn, counter %262 has no mode yet
@@ -187,16 +271,16 @@ pub fn refused(n: u8, facts: [u8; 16]) -> Text {
 pub fn bad_line(n: u8, line: u64, column: u64, found: [u8; 8]) -> Text {
     fill(
         b"
-00 :&0:&1: expected reset, write, read, intp, slave, gates, requests, acknowledge, advance, cycle, raw or a # comment
+00 :&0:&1: expected reset, write, read, intp, slave, gates, requests, acknowledge, advance, cycle, raw, repeat, memory, lend, expect, guess, show, chart or a # comment
 01 :&0:&1: expected a port, one or two hexadecimal digits
 02 :&0:&1: expected the byte to write, one or two hexadecimal digits
 03 :&0:&1: expected the levels, one or two hexadecimal digits
 04 :&0:&1: expected the number of pulses, decimal, at most 65535
-05 :&0:&1: expected the device's byte, one or two hexadecimal digits, or the end of the line
+05 :&0:&1: expected the device's byte, one or two hexadecimal digits, a text, or the end of the line
 06 :&0:&1: expected the device's upper byte, one or two hexadecimal digits, or 'end', or the end of the line
 07 :&0:&1: expected 'end', or the end of the line
 08 :&0:&1: expected one of the eight bytes of a raw record, one or two hexadecimal digits
-09 :&0:&1: expected the end of the line, or a # comment
+09 :&0:&1: expected the end of the line, an equals sign and the answer, or a # comment
 0A :&0:&1: expected the end of the line by here: a line has at most 1000 characters
 0B :&0:&1: expected a line feed at the end of the last line; the file may be cut short
 
@@ -209,6 +293,35 @@ pub fn bad_line(n: u8, line: u64, column: u64, found: [u8; 8]) -> Text {
 12 :&0:&1: a carriage return that no line feed follows; end each line with a line feed, or with both
 13 :&0:&1: the byte $0, which is no plain ASCII character; it may look like a letter or a digit and be none: type it anew
 14 :&0:&1: no line feed up to here; the rest was not read
+
+15 :&0:&1: expected what the answer is to be: ? alone, or done, refused, a byte, call, out, int, rises, nothing, grant, leave, unit, end, free, outside, upper
+16 :&0:&1: this was said before, or it cannot be beside what was
+17 :&0:&1: expected the number of a refusal, 1 to 6
+18 :&0:&1: expected the address of a CALL, four hexadecimal digits
+19 :&0:&1: expected the levels of OUT0, OUT1 and OUT2, three digits, each 0 or 1
+1A :&0:&1: expected the level of INT, 0 or 1
+1B :&0:&1: expected how often OUT0 rises, decimal
+1C :&0:&1: expected a channel, 0 to 3
+1D :&0:&1: expected an address, one to six hexadecimal digits
+1E :&0:&1: expected bytes, one or two hexadecimal digits each, or texts in double quotes
+1F :&0:&1: expected a text: characters between two double quotes
+20 :&0:&1: expected how often, decimal, 1 to 65535
+21 :&0:&1: expected the record to repeat: reset, write, read, intp, slave, gates, requests, acknowledge, advance, cycle or raw
+22 :&0:&1: expected the length of the memory in bytes, decimal, at most 65536
+23 :&0:&1: expected int, out or memory
+24 :&0:&1: expected master, slave, timer, dma, or the end of the line
+25 :&0:&1: expected the chart's name, at most 64 characters
+26 :&0:&1: expected a colon, and what is said to the guess
+27 :&0:&1: expected what is said to the guess
+28 :&0:&1: expected the upper byte, one or two hexadecimal digits
+29 :&0:&1: memory and lend stand before the first record
+2A :&0:&1: past the end of the memory
+2B :&0:&1: a guess stands below a line with a check
+2C :&0:&1: card and again are lines of 'lesson try'
+2D :&0:&1: a chart has at most 256 bytes of memory
+2E :&0:&1: a guess is asked for in a lesson, not in 'lesson try'
+2F :&0:&1: expected the end of the line, or a # comment
+30 :&0:&1: the answer to this record has no such thing
 ",
         n,
         facts(found, 0, 0, 0, 0),
@@ -232,9 +345,10 @@ pub fn message(n: u8, first: u64, second: u64) -> Text {
 18  ends inside a record or an answer; bytes left over: &0
 19 : no such word, and no such file
 1A : there are no options; a file of that name is given as ./NAME
-1B : one FILE too many; assemble, list and explain take one each
+1B : one FILE too many; assemble, list, explain, try and card take one each
 1C : an argument is empty
-1D : pieces takes a FILE, or more
+1D : pieces and listing take a FILE, or more
+1E : there is no such card; 'card' alone lists them
 
 20 records: &0, refused: &1
 21 memory that was written:
@@ -244,6 +358,10 @@ pub fn message(n: u8, first: u64, second: u64) -> Text {
 25 lesson: a temporary file would take the place of standard input, output or error, one of which is closed
 26 bytes lost past the end of memory: &0
 27 bytes read past the end of memory: &0
+28 checks: &0, failed: &1
+29 guesses still to be filled in: &0
+2B like the row above: &0 more
+2C from reset
 ",
         n,
         [0u8; 16],
@@ -255,7 +373,15 @@ pub fn message(n: u8, first: u64, second: u64) -> Text {
 pub fn print_heads() -> bool {
     io::write_all(
         STDOUT_FILENO,
-        b" line asked                          answer                             OUT INT\n",
+        b" line pulses asked                       answer                          OUT INT\n",
+    )
+}
+
+// Of answers that stand by themselves.
+pub fn print_answer_heads() -> bool {
+    io::write_all(
+        STDOUT_FILENO,
+        b"  no.        asked                       answer                          OUT INT\n",
     )
 }
 
@@ -263,11 +389,14 @@ pub fn print_usage() {
     io::write_all(
         STDERR_FILENO,
         b"usage: lesson FILE..              runs lessons
+       lesson try [FILE]          a line in, its row out
+       lesson card [PORT or WORD] what each bit of a port means
+       lesson listing FILE..      runs lessons, and prints their comments too
        lesson pieces FILE..       a lesson's records and answers, one by one
        lesson assemble [FILE]     the notation as a tape
        lesson list [FILE]         a tape in the notation
        lesson explain [FILE]      answers in words
-With no FILE, assemble, list and explain take standard input.
+With no FILE, try, assemble, list and explain take standard input.
 ",
     );
 }
@@ -381,7 +510,7 @@ impl Filling {
     fn take(self, c: u8, facts: [u8; 16], first: u64, second: u64) -> Filling {
         let t = self.text;
         if self.left != 0 {
-            return self.take_digit(notation::digit(c), facts, first, second);
+            return self.take_digit(word::digit(c), facts, first, second);
         }
         if self.pass != 0 {
             return Filling::passing(t, passed(self.pass, c));
@@ -392,6 +521,7 @@ impl Filling {
         }
         match c {
             b'|' => Filling::passing(t, 255),
+            b'^' => Filling::passing(t.put(b'|'), 0),
             b'}' => self,
             _ => Filling::passing(t.put(c), 0),
         }

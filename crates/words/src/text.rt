@@ -4,7 +4,7 @@ use libc::STDOUT_FILENO;
 
 // What does not fit is left off.
 pub struct Text {
-    pub bytes: [u8; 240],
+    pub bytes: [u8; 400],
     pub n: usize,
 }
 
@@ -19,33 +19,17 @@ pub fn glyph(d: u8) -> u8 {
     b'?'
 }
 
-fn spaces(x: u64) -> usize {
-    if x < 10 {
-        return 4;
-    }
-    if x < 100 {
-        return 3;
-    }
-    if x < 1000 {
-        return 2;
-    }
-    if x < 10000 {
-        return 1;
-    }
-    0
-}
-
 impl Text {
     pub fn new() -> Text {
         Text {
-            bytes: [0u8; 240],
+            bytes: [0u8; 400],
             n: 0,
         }
     }
 
     pub fn put(mut self, b: u8) -> Text {
         let n = self.n;
-        if n < 240 {
+        if n < 400 {
             self.bytes[n] = b;
             self.n = n + 1;
             return self;
@@ -82,16 +66,26 @@ impl Text {
         self.say(&digits[..k])
     }
 
-    // A number that ends in column 5, as line numbers do.
-    pub fn number(x: u64) -> Text {
-        Text::new().pad(spaces(x)).decimal(x)
+    // A number that ends at a column, if it is not too long for that.
+    pub fn number(self, x: u64, column: usize) -> Text {
+        let digits = Text::new().decimal(x);
+        let n = digits.n;
+        if n < column {
+            return self.pad(column - n).part(digits, 0, n);
+        }
+        self.part(digits, 0, n)
+    }
+
+    // Another text after this one.
+    pub fn and(self, other: Text) -> Text {
+        self.part(other, 0, other.n)
     }
 
     // Spaces up to a column.
     pub fn pad(self, to: usize) -> Text {
         let mut t = self;
         let mut i: usize = 0;
-        while i < 240 {
+        while i < 400 {
             if to <= t.n {
                 return t;
             }
@@ -106,7 +100,7 @@ impl Text {
         let mut t = self;
         let mut i = from;
         while i < to {
-            if 239 < i {
+            if 399 < i {
                 return t;
             }
             t = t.put(other.bytes[i]);
@@ -137,8 +131,11 @@ impl Text {
         self
     }
 
-    // OUT0 to OUT2 and INT, as an answer's byte 3 has them.
+    // OUT0 to OUT2 and INT, as an answer's byte 3 has them; nothing for a number that is none.
     pub fn levels(self, x: u8) -> Text {
+        if 15 < x {
+            return self;
+        }
         self.put(b'0' + x % 2)
             .put(b'0' + x / 2 % 2)
             .put(b'0' + x / 4 % 2)
@@ -148,7 +145,7 @@ impl Text {
     }
 
     fn is_space(self, i: usize) -> bool {
-        if i < 240 {
+        if i < 400 {
             return self.bytes[i] == b' ';
         }
         false
@@ -177,7 +174,7 @@ impl Text {
     // The next piece starts past the space that the last one ended at.
     fn after(self, i: usize) -> usize {
         if self.is_space(i) {
-            if i < 240 {
+            if i < 400 {
                 return i + 1;
             }
             return i;
@@ -201,7 +198,7 @@ impl Text {
 }
 
 // The array as a slice: its length is known by its type here.
-fn write_array(fd: i32, b: &[u8; 240], n: usize) -> bool {
+fn write_array(fd: i32, b: &[u8; 400], n: usize) -> bool {
     write_part(fd, b, n)
 }
 
@@ -212,18 +209,23 @@ pub fn write_part(fd: i32, b: &[u8], n: usize) -> bool {
     io::write_all(fd, &b[..n])
 }
 
-// One record's row: its number, what was asked, the answer, the levels. Where a text is too long for its column, the row goes on below.
-pub fn print_row(number: u64, asked: Text, answer: Text, levels: u8) -> bool {
-    let a = asked.break_at(0, 30);
-    let b = answer.break_at(0, 34);
-    let row = Text::number(number)
-        .put(b' ')
+// What stands at the left of a row: the number of its line, and the pulses so far.
+pub fn left(number: u64, pulses: u64) -> Text {
+    Text::new().number(number, 5).put(b' ').number(pulses, 12)
+}
+
+// A row: what stands at its left, what was asked, the answer, the levels. Where a text is too long for its column, the row goes on below.
+pub fn print_row(left: Text, asked: Text, answer: Text, levels: u8) -> bool {
+    let a = asked.break_at(0, 27);
+    let b = answer.break_at(0, 31);
+    let row = left.put(b' ')
+        .pad(13)
         .part(asked, 0, a)
         .put(b' ')
-        .pad(37)
+        .pad(41)
         .part(answer, 0, b)
         .put(b' ')
-        .pad(72)
+        .pad(73)
         .levels(levels)
         .put(b'\n');
     if row.print() {
@@ -244,25 +246,43 @@ fn add_answer(left: Text, answer: Text, from: usize, to: usize) -> Text {
     if to <= from {
         return left;
     }
-    left.pad(37).part(answer, from, to)
+    left.pad(41).part(answer, from, to)
 }
 
 fn print_rest(asked: Text, from: usize, answer: Text, start: usize) -> bool {
     let mut a = from;
     let mut b = start;
     let mut turns: usize = 0;
-    while turns < 240 {
+    while turns < 400 {
         if is_done(asked, a, answer, b) {
             return true;
         }
-        let e = asked.break_at(a, 30);
-        let f = answer.break_at(b, 34);
-        let left = Text::new().pad(6).part(asked, a, e);
+        let e = asked.break_at(a, 27);
+        let f = answer.break_at(b, 31);
+        let left = Text::new().pad(13).part(asked, a, e);
         if !add_answer(left, answer, b, f).put(b'\n').print() {
             return false;
         }
         a = asked.after(e);
         b = answer.after(f);
+        turns += 1;
+    }
+    true
+}
+
+// A text in lines of its own below a row, each up to column 79.
+pub fn print_below(t: Text) -> bool {
+    let mut a: usize = 0;
+    let mut turns: usize = 0;
+    while turns < 400 {
+        if t.n <= a {
+            return true;
+        }
+        let e = t.break_at(a, 73);
+        if !Text::new().pad(6).part(t, a, e).put(b'\n').print() {
+            return false;
+        }
+        a = t.after(e);
         turns += 1;
     }
     true

@@ -3,23 +3,37 @@ use Rattle.lesson.proofs.bench.take_all.Statement.{statement}
 use Rattle.lesson.proofs.bench.take_all.Tie as tie
 use Rattle.lesson.proofs.bench.take_all.Reads as reads
 use Rattle.lesson.proofs.bench.take_all.Lts as lts
+use Rattle.board.proofs.Board.reset.Reads as reset-reads
+use Rattle.lesson.proofs.bench.desk_of.Reads as desk-of-reads
+use Rattle.lesson.proofs.bench.first_line.Reads as first-line-reads
 use Rattle.lesson.proofs.bench.start.Reads as start-reads
-use Rattle.lesson.proofs.bench.take_lump.Reads as take-lump-reads
+use Rattle.lesson.proofs.bench.take_next.Reads as take-next-reads
 
 abbrev Inv-loop : tie.InvT-loop
-Inv-loop mode fd path line₀ store₀ marks₀ bench₀ turns₀ line store marks bench turns = Unit {0}
+Inv-loop mode plain fd path line₀ lump₀ memory₀ marks₀ round₀ turns₀ line lump memory marks round turns =
+    Unit {0}
 
 abbrev μ-loop : tie.MeasureT-loop
-μ-loop mode fd path line₀ store₀ marks₀ bench₀ turns₀ line store marks bench turns = turns
+μ-loop mode plain fd path line₀ lump₀ memory₀ marks₀ round₀ turns₀ line lump memory marks round turns =
+    turns
 
 start-requires : tie.Need-start-requires Inv-loop μ-loop
 start-requires c κs = search needs
 
+reset-requires : tie.Need-reset-requires Inv-loop μ-loop
+reset-requires c κs = search needs
+
+desk-of-requires : tie.Need-desk-of-requires Inv-loop μ-loop
+desk-of-requires c κs = search needs
+
+first-line-requires : tie.Need-first-line-requires Inv-loop μ-loop
+first-line-requires c κs = search needs
+
 loop-holds : tie.Need-loop-holds Inv-loop μ-loop
 loop-holds c = search needs
 
-take-lump-requires : tie.Need-take-lump-requires Inv-loop μ-loop
-take-lump-requires c κs = search needs
+take-next-requires : tie.Need-take-next-requires Inv-loop μ-loop
+take-next-requires c κs = search needs
 
 returns : tie.Need-returns Inv-loop μ-loop
 returns c = search needs
@@ -43,8 +57,11 @@ take-all-spec =
     Inv-loop
     μ-loop
     start-requires
+    reset-requires
+    desk-of-requires
+    first-line-requires
     loop-holds
-    take-lump-requires
+    take-next-requires
     returns
     sub-turns
     loop-less

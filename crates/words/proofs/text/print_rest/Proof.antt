@@ -18,7 +18,7 @@ abbrev Inv-loop : tie.InvT-loop
 Inv-loop asked from answer start a₀ b₀ turns₀ a b turns = Unit {0}
 
 abbrev μ-loop : tie.MeasureT-loop
-μ-loop asked from answer start a₀ b₀ turns₀ a b turns = 240 - turns
+μ-loop asked from answer start a₀ b₀ turns₀ a b turns = 400 - turns
 
 loop-holds : tie.Need-loop-holds Inv-loop μ-loop
 loop-holds c = search needs

@@ -10,7 +10,7 @@ abbrev Inv-loop : tie.InvT-loop
 Inv-loop to t₀ i₀ t i = Unit {0}
 
 abbrev μ-loop : tie.MeasureT-loop
-μ-loop to t₀ i₀ t i = 240 - i
+μ-loop to t₀ i₀ t i = 400 - i
 
 loop-holds : tie.Need-loop-holds Inv-loop μ-loop
 loop-holds c = search needs

@@ -1,0 +1,70 @@
+// A record as a line.
+
+// Bytes 3 to 7 of a record are zero; it stands first among the facts.
+pub fn is_zero_later(r: [u8; 16]) -> bool {
+    r[3] | last_four(r) == 0
+}
+
+fn last_four(r: [u8; 16]) -> u8 {
+    r[4] | r[5] | r[6] | r[7]
+}
+
+// The sentence of the line that stands for a record: whatever has no line of its own is raw.
+pub fn sentence(r: [u8; 16]) -> u8 {
+    if r[0] == 5 {
+        return match r[1] | r[2] | r[3] {
+            0 => 0x09,
+            _ => 0x00,
+        };
+    }
+    if r[0] == 6 {
+        return match last_four(r) {
+            0 => cycle_sentence(r[1], r[2], r[3]),
+            _ => 0x00,
+        };
+    }
+    if is_zero_later(r) {
+        return short_sentence(r[0], r[1], r[2]);
+    }
+    0x00
+}
+
+// The upper byte goes unsaid where it is 00, and the lower one too where nothing follows it.
+fn cycle_sentence(end: u8, lower: u8, upper: u8) -> u8 {
+    if 1 < end {
+        return 0x00;
+    }
+    if 0 < upper {
+        return 0x08;
+    }
+    match end | lower {
+        0 => 0x06,
+        _ => 0x07,
+    }
+}
+
+fn short_sentence(op: u8, x: u8, y: u8) -> u8 {
+    match op {
+        0 => match x | y {
+            0 => 0x0a,
+            _ => 0x00,
+        },
+        1 => 0x01,
+        2 => match y {
+            0 => 0x02,
+            _ => 0x00,
+        },
+        3 => match x {
+            0 => 0x03,
+            1 => 0x04,
+            2 => 0x05,
+            3 => 0x0d,
+            _ => 0x00,
+        },
+        4 => match x | y {
+            0 => 0x0b,
+            _ => 0x00,
+        },
+        _ => 0x00,
+    }
+}

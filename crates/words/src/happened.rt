@@ -1,0 +1,616 @@
+// What came of a record, by the chips before it and after it.
+use crate::answered;
+use crate::asked;
+use crate::chips;
+use crate::chips::Chips;
+use crate::chips::Manner;
+use crate::sentences;
+use crate::text::Text;
+use icu::Icu;
+use timer::Counter;
+
+// What an answer says, and what came of its record besides; `done` where there is nothing to be said.
+pub fn words(before: Chips, after: Chips, r: [u8; 8], a: [u8; 16], m: Manner) -> Text {
+    let said = chips::answered(before, after, r, a, m);
+    if a[0] != 0 {
+        return said;
+    }
+    if m.plain {
+        return or_done(said, r, a);
+    }
+    let all = said.and(first_words(before, after, r))
+        .and(levels(before, after, r));
+    if all.n == 0 {
+        return or_done(all, r, a);
+    }
+    // a row that begins with a piece begins after its semicolon
+    if all.n < 2 {
+        return all;
+    }
+    if all.bytes[0] == b';' {
+        return Text::new().part(all, 2, all.n);
+    }
+    all
+}
+
+// A text, or where there is none what was done: of an advance the rises.
+fn or_done(said: Text, r: [u8; 8], a: [u8; 16]) -> Text {
+    if said.n == 0 {
+        return sentences::answered(answered::done(r[0], a[4], 0), a, 0);
+    }
+    said
+}
+
+// What is the record's own matter.
+fn first_words(before: Chips, after: Chips, r: [u8; 8]) -> Text {
+    let op = r[0];
+    if op == 5 {
+        return advanced(before, after, pulses_of(r));
+    }
+    let port = r[1];
+    match op {
+        1 => written(before, after, port, r[2]),
+        3 => match port {
+            1 => gated(before, after),
+            2 => requested(after),
+            _ => Text::new(),
+        },
+        _ => Text::new(),
+    }
+}
+
+fn written(before: Chips, after: Chips, port: u8, x: u8) -> Text {
+    let place = asked::master_port(port);
+    match place / 16 {
+        0 => interrupt_words(before, after, port, x),
+        1 => counter_words(before, after, place, x),
+        _ => dma_words(after, place, x),
+    }
+}
+
+fn interrupt_words(before: Chips, after: Chips, port: u8, x: u8) -> Text {
+    let slave = chips::is_slave(port);
+    let was = before.chip(slave);
+    let now = after.chip(slave);
+    let finished = was.isr & !now.isr;
+    let f = [
+        x,
+        slave as u8,
+        finished,
+        answered::how_many(finished),
+        now.isr,
+        now.stage,
+        (now.lowest % 8 + 1) % 8,
+        0,
+        0,
+        0,
+        0,
+        0,
+        0,
+        0,
+        0,
+        0,
+    ];
+    sentences::happened(word(port % 16, was.stage, x, finished), f, 0)
+}
+
+// Which words there are for a write at A0=0 or A0=1; none for IMR.
+fn word(a0: u8, stage: u8, x: u8, finished: u8) -> u8 {
+    if a0 == 0 {
+        return command(x, finished);
+    }
+    match stage {
+        Icu::READY => 0,
+        _ => 0x27,
+    }
+}
+
+// A word at A0=0: IW1, MCW, or PFCW.
+fn command(x: u8, finished: u8) -> u8 {
+    match x / 8 % 4 {
+        0 => match finished {
+            0 => vain(x / 32),
+            _ => 0x20,
+        },
+        1 => match x % 4 {
+            2 => 0x25,
+            3 => 0x25,
+            _ => 0x24,
+        },
+        _ => 0x27,
+    }
+}
+
+// PFCW that ends no level, by D7-D5.
+fn vain(command: u8) -> u8 {
+    match command {
+        1 => 0x21,
+        5 => 0x21,
+        3 => 0x22,
+        7 => 0x22,
+        6 => 0x23,
+        2 => 0x24,
+        _ => 0,
+    }
+}
+
+// The counter that a port, or a control word, is about.
+fn counter_of(port: u8, x: u8) -> u8 {
+    match port {
+        0x13 => x / 64,
+        _ => port % 4,
+    }
+}
+
+fn counter_words(before: Chips, after: Chips, port: u8, x: u8) -> Text {
+    let k = counter_of(port, x);
+    let was = before.counter(k);
+    let now = after.counter(k);
+    if port == 0x13 {
+        return four_facts(
+            control(x, was.latched),
+            low(now.latch),
+            high(now.latch),
+            0,
+            0,
+            0,
+        );
+    }
+    if now.half {
+        return four_facts(0x33, 0, 0, old_count(was.full, now.mode), 0, 0);
+    }
+    let count = now.count;
+    sentences::happened(
+        0x34,
+        [
+            0,
+            0,
+            0,
+            0,
+            takeover(now),
+            low(count),
+            high(count),
+            (count == 0) as u8,
+            0,
+            0,
+            0,
+            0,
+            0,
+            0,
+            0,
+            0,
+        ],
+        0,
+    )
+}
+
+// The two bytes of a count.
+pub fn low(x: u16) -> u8 {
+    (x % 256) as u8
+}
+
+pub fn high(x: u16) -> u8 {
+    (x / 256) as u8
+}
+
+// A sentence by its facts 2 to 6.
+fn four_facts(n: u8, two: u8, three: u8, four: u8, five: u8, six: u8) -> Text {
+    sentences::happened(
+        n,
+        [0, 0, two, three, four, five, six, 0, 0, 0, 0, 0, 0, 0, 0, 0],
+        0,
+    )
+}
+
+fn control(x: u8, latched: bool) -> u8 {
+    if x / 16 % 4 != 0 {
+        return 0x30;
+    }
+    if latched {
+        return 0x31;
+    }
+    0x32
+}
+
+// What half a count does to the one before it: nothing where there is none, in mode 0 it stands still.
+fn old_count(full: bool, mode: u8) -> u8 {
+    if full {
+        return match mode {
+            0 => 2,
+            _ => 1,
+        };
+    }
+    0
+}
+
+// When a count is taken over: 0 at the next pulse, 1 after GATE rose, 2 at the end of the old one, 3 at the end of half of it.
+fn takeover(c: Counter) -> u8 {
+    let mode = c.mode;
+    if c.trigger {
+        return 0;
+    }
+    match mode {
+        1 => 1,
+        5 => 1,
+        _ => later(c.pending, c.gate, mode),
+    }
+}
+
+fn later(pending: bool, gate: bool, mode: u8) -> u8 {
+    if pending {
+        return 0;
+    }
+    if !gate {
+        return 1;
+    }
+    match mode {
+        3 => 3,
+        _ => 2,
+    }
+}
+
+fn dma_words(after: Chips, port: u8, x: u8) -> Text {
+    match port {
+        0x20 => sentences::happened(0x43 * (x % 2), [0u8; 16], 0),
+        0x22 => units_words(after, 0),
+        0x23 => units_words(after, 1),
+        0x24 => address_words(after),
+        0x25 => address_words(after),
+        0x26 => address_words(after),
+        0x28 => requested(after),
+        0x2f => requested(after),
+        _ => Text::new(),
+    }
+}
+
+// The count of the selected channel, and with its high byte how many units it stands for.
+fn units_words(after: Chips, whole: u8) -> Text {
+    let count = after.register(0x22);
+    let units = count % 65536 + 1;
+    let c = notation::line::little(count);
+    let n = notation::line::little(units);
+    sentences::happened(
+        0x40,
+        [
+            0,
+            0,
+            0,
+            0,
+            whole | ((units != 1) as u8) << 1 & whole << 1,
+            0,
+            0,
+            0,
+            c[0],
+            c[1],
+            n[0],
+            n[1],
+            n[2],
+            0,
+            0,
+            0,
+        ],
+        0,
+    )
+}
+
+fn address_words(after: Chips) -> Text {
+    let a = notation::line::little(after.register(0x24));
+    four_facts(0x41, 0, 0, a[0], a[1], a[2])
+}
+
+// The channels that ask: those that may be served, and those that are masked.
+fn requested(after: Chips) -> Text {
+    let d = after.dma;
+    let masked = after.masks();
+    let free = d.requests & !masked;
+    let held = d.requests & masked;
+    let f = [
+        free,
+        answered::how_many(free),
+        held,
+        answered::how_many(held),
+        disabled(d.requests, d.disabled),
+        0,
+        0,
+        0,
+        0,
+        0,
+        0,
+        0,
+        0,
+        0,
+        0,
+        0,
+    ];
+    sentences::happened(0x42, f, 0)
+}
+
+// That the chip is disabled is said where somebody asks.
+fn disabled(requests: u8, disabled: bool) -> u8 {
+    match requests {
+        0 => 0,
+        _ => disabled as u8,
+    }
+}
+
+// A bit for each counter.
+fn three(a: bool, b: bool, c: bool) -> u8 {
+    a as u8 | (b as u8) << 1 | (c as u8) << 2
+}
+
+fn gates_of(chips: Chips) -> u8 {
+    let c0 = chips.counter(0);
+    let c1 = chips.counter(1);
+    let c2 = chips.counter(2);
+    three(c0.gate, c1.gate, c2.gate)
+}
+
+fn triggers_of(chips: Chips) -> u8 {
+    let c0 = chips.counter(0);
+    let c1 = chips.counter(1);
+    let c2 = chips.counter(2);
+    three(c0.trigger, c1.trigger, c2.trigger)
+}
+
+// GATE of some counters rose or fell.
+fn gated(before: Chips, after: Chips) -> Text {
+    let was = gates_of(before);
+    let now = gates_of(after);
+    let loads = triggers_of(after);
+    let held = three(
+        stands_still(after, 0),
+        stands_still(after, 1),
+        stands_still(after, 2),
+    );
+    let starts = now & !was & loads;
+    let stops = was & !now & held;
+    let goes = now & !was & !loads & held;
+    let f = [
+        starts,
+        answered::how_many(starts),
+        stops,
+        answered::how_many(stops),
+        goes,
+        answered::how_many(goes),
+        0,
+        0,
+        0,
+        0,
+        0,
+        0,
+        0,
+        0,
+        0,
+        0,
+    ];
+    sentences::happened(0x50, f, 0)
+}
+
+// Whether a low GATE keeps a counter from counting: once it has a count, in any mode but 1 and 5.
+fn stands_still(chips: Chips, k: u8) -> bool {
+    let c = chips.counter(k);
+    let mode = c.mode;
+    match mode {
+        1 => false,
+        5 => false,
+        0 => c.full & !c.half,
+        _ => c.full,
+    }
+}
+
+// The pulses of an advance that was done.
+pub fn pulses_of(r: [u8; 8]) -> u32 {
+    r[4] as u32 | (r[5] as u32) << 8
+}
+
+// At which pulses each OUT rose, and where the counters are.
+fn advanced(before: Chips, after: Chips, pulses: u32) -> Text {
+    let rises = rises_of(before, 0, pulses)
+        .and(rises_of(before, 1, pulses))
+        .and(rises_of(before, 2, pulses));
+    let values = value_of(after, 0)
+        .and(value_of(after, 1))
+        .and(value_of(after, 2));
+    if rises.n == 0 {
+        return sentences::happened(0x62, [0u8; 16], 0).and(values);
+    }
+    rises.and(values)
+}
+
+fn value_of(chips: Chips, k: u8) -> Text {
+    let c = chips.counter(k);
+    let mut f = [0u8; 16];
+    if 5 < c.mode {
+        return Text::new();
+    }
+    f[0] = low(c.value);
+    f[1] = high(c.value);
+    f[12] = k;
+    sentences::happened(0x61, f, 0)
+}
+
+// The first three pulses of these that made an OUT rise, and how many others did.
+fn rises_of(chips: Chips, k: u8, pulses: u32) -> Text {
+    let c = chips.counter(k);
+    let ran = c.run(pulses);
+    let all = ran.rises;
+    let one = notation::line::little(pulse_of_rise(chips, k, pulses, 1));
+    let two = notation::line::little(pulse_of_rise(chips, k, pulses, 2));
+    let three = notation::line::little(pulse_of_rise(chips, k, pulses, 3));
+    let f = [
+        one[0],
+        one[1],
+        one[2],
+        0,
+        two[0],
+        two[1],
+        two[2],
+        0,
+        three[0],
+        three[1],
+        three[2],
+        0,
+        k,
+        named(all),
+        (3 < all) as u8,
+        0,
+    ];
+    if all == 0 {
+        return Text::new();
+    }
+    sentences::happened(0x60, f, more_than_three(all))
+}
+
+fn named(rises: u32) -> u8 {
+    match rises {
+        0 => 0,
+        1 => 1,
+        2 => 2,
+        _ => 3,
+    }
+}
+
+fn more_than_three(rises: u32) -> u64 {
+    if rises < 3 {
+        return 0;
+    }
+    (rises - 3) as u64
+}
+
+// The least number of pulses in which OUT rises so often, found by halving; more than all of them where it does not.
+fn pulse_of_rise(chips: Chips, k: u8, pulses: u32, rises: u32) -> u32 {
+    let c = chips.counter(k);
+    let mut low: u32 = 0;
+    let mut high = pulses % 65536 + 1;
+    let mut turns: usize = 0;
+    while turns < 17 {
+        let middle = (low % 131072 + high % 131072) / 2;
+        let ran = c.run(middle);
+        if ran.rises < rises {
+            low = middle;
+        } else {
+            high = middle;
+        }
+        turns += 1;
+    }
+    high
+}
+
+// An interrupt chip seen from outside: the levels that ask, and INT.
+struct Seen {
+    irr: u8,
+    int: bool,
+}
+
+fn look_at(chips: Chips, slave: bool) -> Seen {
+    let i = chips.chip(slave);
+    let lines = chips.lines(slave);
+    Seen {
+        irr: i.irr(lines),
+        int: i.int(lines),
+    }
+}
+
+// What became of an INT: 0 nothing to say, 1 it rose, 2 it fell; low all the same though levels ask anew: 3 they are masked, 4 a level in service has the rank, 5 the chip is
+// not ready, 6 some are masked and of the others 4 is true.
+fn change(was: bool, now: bool, anew: u8, stage: u8, asked: u8) -> u8 {
+    if now {
+        return match was {
+            true => 0,
+            false => 1,
+        };
+    }
+    if was {
+        return 2;
+    }
+    if anew == 0 {
+        return 0;
+    }
+    if stage != Icu::READY {
+        return 5;
+    }
+    match anew & asked {
+        0 => 3,
+        _ => match anew & !asked {
+            0 => 4,
+            _ => 6,
+        },
+    }
+}
+
+// The OUTs that went from one level to the other.
+fn outs_from(was: Chips, now: Chips) -> u8 {
+    let t = was.timer;
+    let u = now.timer;
+    u.outs() & !t.outs()
+}
+
+// OUT, but its rises in pulses, which were told; the levels that ask anew or no more; INT. An acknowledge tells of these itself.
+fn levels(before: Chips, after: Chips, r: [u8; 8]) -> Text {
+    let op = r[0];
+    if op == 4 {
+        return Text::new();
+    }
+    let mut rises = outs_from(before, after);
+    if op == 5 {
+        rises = 0;
+    }
+    let falls = outs_from(after, before);
+    let f = level_facts(before, after, rises, falls, told_levels(op, r[1], r[2]));
+    sentences::happened(0x10, f, 0)
+}
+
+fn level_facts(before: Chips, after: Chips, rises: u8, falls: u8, told: u8) -> [u8; 16] {
+    let was = look_at(before, false);
+    let now = look_at(after, false);
+    let slave_was = look_at(before, true);
+    let slave_now = look_at(after, true);
+    let icu = after.icu;
+    let slave = after.slave;
+    let anew = now.irr & !was.irr & told;
+    let gone = was.irr & !now.irr & told;
+    let slave_anew = slave_now.irr & !slave_was.irr & told;
+    let slave_gone = slave_was.irr & !slave_now.irr & told;
+    [
+        anew,
+        answered::how_many(anew),
+        gone,
+        answered::how_many(gone),
+        change(
+            was.int,
+            now.int,
+            anew,
+            icu.stage,
+            icu.asked(after.lines(false)),
+        ),
+        icu::highest(icu.isr, icu.lowest),
+        slave_anew,
+        answered::how_many(slave_anew),
+        slave_gone,
+        answered::how_many(slave_gone),
+        change(
+            slave_was.int,
+            slave_now.int,
+            slave_anew,
+            slave.stage,
+            slave.asked(after.slaveintp),
+        ),
+        rises,
+        icu::highest(slave.isr, slave.lowest),
+        falls,
+        0,
+        0,
+    ]
+}
+
+// Records that change requests by themselves, a reset and IW1, leave no level to be told of: 0 for them, and 255 for others.
+fn told_levels(op: u8, port: u8, x: u8) -> u8 {
+    match op {
+        0 => 0,
+        1 => match asked::master_port(port) {
+            0 => 255 * (1 - x / 16 % 2),
+            _ => 255,
+        },
+        _ => 255,
+    }
+}

@@ -1,0 +1,138 @@
+// The state of the chips, a line for each of their parts.
+use crate::answered;
+use crate::chips::Chips;
+use crate::sentences;
+use crate::text;
+use icu::Icu;
+
+// All, or one chip: 1 the master, 2 the slave, 3 the timer, 4 the DMA chip.
+pub fn print(chips: Chips, which: u32) -> bool {
+    match which {
+        1 => print_icu(chips, false),
+        2 => print_icu(chips, true),
+        3 => print_timer(chips),
+        4 => print_dma(chips),
+        _ => print_icu(chips, false)
+            && print_icu(chips, true)
+            && print_timer(chips)
+            && print_dma(chips),
+    }
+}
+
+fn print_icu(chips: Chips, slave: bool) -> bool {
+    let i = chips.chip(slave);
+    let lines = chips.lines(slave);
+    let irr = i.irr(lines);
+    let asked = i.asked(lines);
+    let mut f = [0u8; 16];
+    f[0] = slave as u8;
+    f[1] = i.isr;
+    f[2] = irr;
+    f[3] = i.imr;
+    f[4] = answered::cause_of_low(irr, asked);
+    f[5] = icu::highest(i.isr, i.lowest);
+    f[6] = i.stage;
+    if i.int(lines) {
+        f[4] = 3;
+        f[5] = icu::highest(asked, i.lowest);
+    }
+    if i.stage != Icu::READY {
+        return text::print_below(sentences::shown(1, f));
+    }
+    text::print_below(sentences::shown(0, f)) && print_set_up(i, slave)
+}
+
+// How an interrupt chip that is ready was set up, and how it ranks.
+fn print_set_up(i: Icu, slave: bool) -> bool {
+    let f = [
+        slave as u8,
+        0,
+        0,
+        0,
+        0,
+        0,
+        0,
+        i.iw1,
+        i.iw2 & 0xf8,
+        i.vector as u8,
+        i.lowest,
+        i.showsisr as u8,
+        i.sfi as u8,
+        i.rotation as u8,
+        0,
+        0,
+    ];
+    text::print_below(sentences::shown(7, f))
+}
+
+fn print_timer(chips: Chips) -> bool {
+    print_counter(chips, 0) && print_counter(chips, 1) && print_counter(chips, 2)
+}
+
+fn print_counter(chips: Chips, k: u8) -> bool {
+    let c = chips.counter(k);
+    let reads = c.latched as u8 | (c.half as u8) << 1 | (c.second as u8) << 2;
+    let waits = (c.pending as u8) << 3 | (c.trigger as u8) << 4;
+    let f = [
+        (c.value % 256) as u8,
+        (c.value / 256 % 256) as u8,
+        (c.count % 256) as u8,
+        (c.count / 256 % 256) as u8,
+        c.mode,
+        c.out as u8,
+        c.gate as u8,
+        (c.latch % 256) as u8,
+        (c.latch / 256 % 256) as u8,
+        reads | waits,
+        c.full as u8,
+        0,
+        k,
+        0,
+        0,
+        0,
+    ];
+    text::print_below(sentences::shown(2 | (5 < c.mode) as u8, f))
+}
+
+fn print_dma(chips: Chips) -> bool {
+    let d = chips.dma;
+    let mut f = [0u8; 16];
+    f[0] = d.wide as u8;
+    f[1] = d.disabled as u8;
+    f[2] = d.requests;
+    f[3] = d.ends;
+    f[4] = d.serving as u8;
+    f[5] = d.channel;
+    text::print_below(sentences::shown(5, f))
+        && print_channel(chips, 0)
+        && print_channel(chips, 1)
+        && print_channel(chips, 2)
+        && print_channel(chips, 3)
+}
+
+fn print_channel(chips: Chips, k: u8) -> bool {
+    let c = chips.channel(k);
+    let current = c.current;
+    let base = c.base;
+    let a = notation::line::little(current.address);
+    let b = notation::line::little(base.address);
+    let f = [
+        a[0],
+        a[1],
+        a[2],
+        0,
+        b[0],
+        b[1],
+        b[2],
+        0,
+        (current.count % 256) as u8,
+        (current.count / 256 % 256) as u8,
+        (base.count % 256) as u8,
+        (base.count / 256 % 256) as u8,
+        k,
+        c.masked as u8,
+        c.mode,
+        0,
+    ];
+    text::print_below(sentences::shown(4, f))
+}
