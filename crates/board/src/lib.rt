@@ -1,25 +1,22 @@
-// The board: the chips and their wiring, and what each record of a tape does to them.
+// The board: the chips and their wiring, and what a record does to them.
+// What stands over a chip or two by itself is public for the loop (`records`), which owns the chips and has no board in its hands.
 ghost use mathlib.Core.Path.{_≡_};
 ghost use mathlib.Core.Bool.{Bool, not};
 ghost use mathlib.Core.List.{_++_, _∷_, []};
-ghost use Prim.Native.Nat.{_+_, _*_, _≤_, _<_};
-ghost use lib.ListN.{length, take, drop};
 ghost use lib.Dec.{ltb};
-ghost use lib.Seq.{paste};
 ghost use Rattle.bits.specs.Choice.{if_then_else_, _and_};
 ghost use Rattle.icu.specs.declared.Icu.{Icu};
 ghost use Rattle.icu.specs.Words as IcuWords;
 ghost use Rattle.icu.specs.Service as IcuService;
-ghost use Rattle.icu.specs.Requests.{linesOf};
-ghost use Rattle.cascade.specs.Cascade.{joinedOf};
-ghost use Rattle.tape.specs.Records.{heldOf, usesBus};
-ghost use Rattle.tape.specs.Answers.{twelve, littleOf, answerOf};
+ghost use Rattle.timer.specs.Timer.{gatesOf};
+ghost use Rattle.tape.specs.Records.{usesBus};
+ghost use Rattle.tape.specs.Answers.{twelve, littleOf};
+ghost use Rattle.dma.specs.Registers.{requestedOf};
 ghost use Rattle.dma.specs.Report.{told};
-ghost use Rattle.board.specs.Wiring.{linesBy, linesAt, levelsOf, freshOf, levelsAt, wiredTo};
-ghost use Rattle.board.specs.Operations.{turnOf, flagOf, payloadOf};
-ghost use Rattle.board.specs.Advance.{advancedOf, risesPayload};
-ghost use Rattle.board.specs.Step.{stepOf, stepMemory};
-ghost use Rattle.board.specs.Records.{recordAt, eightFrom, digitsOf, fitting, runOf};
+ghost use Rattle.board.specs.Wiring.{intp-is, timer-is, dma-is, linesBy, linesAt, levelsOf, freshOf, levelsAt, wiredTo, followed, lines, resetOf};
+ghost use Rattle.board.specs.Operations.{done, turnOf, flagOf, payloadOf, a0, icuTold, icuWritten, icuShown, slaveLines, dmaWritten, timerWritten, slaveWritten, dmaShown, timerShown, slaveShown, slaveGives, acknowledgeOf, writeOf, readOf, cycleOf, cycleMemory};
+ghost use Rattle.board.specs.Advance.{advancedOf, risesPayload, advanceOf};
+ghost use Rattle.board.specs.Step.{stepOf, stepMemory, answeredOf, executeOf, memoryAfter};
 use dma::Dma;
 use dma::Report;
 use icu::Acknowledged;
@@ -87,7 +84,7 @@ fn lines_by(intp: u8, out0: bool) -> u8
     bits::without(intp, 0)
 }
 
-fn lines_at(intp: u8, timer: Timer) -> u8
+pub fn lines_at(intp: u8, timer: Timer) -> u8
     ensures { λ r. ⌜ r ≡ linesAt intp timer ⌝ }
 {
     let c = timer.counters[0];
@@ -105,7 +102,7 @@ fn before_change(was: bool, now: bool, rises: u32) -> bool
 }
 
 // n pulses, counter by counter. The interrupt chip keeps no more of them than the last change of OUT0.
-fn run_pulses(timer: Timer, icu: Icu, intp: u8, n: u32) -> Run
+pub fn run_pulses(timer: Timer, icu: Icu, intp: u8, n: u32) -> Run
     ensures { λ r. ⌜ r ≡ advancedOf intp timer icu n ⌝ }
 {
     // for the proof: then the timer is itself, and not three counters put together
@@ -147,7 +144,7 @@ fn flag(k: bool) -> u8
 }
 
 // A unit as payload.
-fn moved_payload(
+pub fn moved_payload(
     channel: u8,
     end: bool,
     stopped: bool,
@@ -165,7 +162,7 @@ fn moved_payload(
 }
 
 // A cycle's report as payload.
-fn payload(report: Report) -> [u8; 12]
+pub fn payload(report: Report) -> [u8; 12]
     ensures { λ r. ⌜ r ≡ twelve (payloadOf (told report)) ⌝ }
 {
     match report {
@@ -185,7 +182,7 @@ fn payload(report: Report) -> [u8; 12]
 }
 
 // The data of a report: the byte moved.
-fn byte_moved(report: Report) -> u8
+pub fn byte_moved(report: Report) -> u8
     ensures { λ r. ⌜ r ≡ told report .byte ⌝ }
 {
     match report {
@@ -197,7 +194,7 @@ fn byte_moved(report: Report) -> u8
 }
 
 // Three rise counts as payload.
-fn rises_payload(rises: [u32; 3]) -> [u8; 12]
+pub fn rises_payload(rises: [u32; 3]) -> [u8; 12]
     ensures { λ r. ⌜ r ≡ twelve (risesPayload rises) ⌝ }
 {
     let a = tape::little(rises[0]);
@@ -220,7 +217,7 @@ fn rises_payload(rises: [u32; 3]) -> [u8; 12]
 }
 
 // The levels of an answer: OUT0 to OUT2, and INT.
-fn levels_at(icu: Icu, intp: u8, timer: Timer) -> u8
+pub fn levels_at(icu: Icu, intp: u8, timer: Timer) -> u8
     ensures { λ r. ⌜ r ≡ levelsAt icu intp timer ⌝ }
 {
     let outs = timer.outs();
@@ -231,7 +228,7 @@ fn levels_at(icu: Icu, intp: u8, timer: Timer) -> u8
 }
 
 // Other INTP levels or another timer: what changed of the eight lines reaches the interrupt chip.
-fn rewire(icu: Icu, intp: u8, timer: Timer, new_intp: u8, new_timer: Timer) -> Wired
+pub fn rewire(icu: Icu, intp: u8, timer: Timer, new_intp: u8, new_timer: Timer) -> Wired
     ensures { λ r. ⌜ r ≡ wiredTo icu (linesAt intp timer) «new_intp» «new_timer» ⌝ }
 {
     let was = lines_at(intp, timer);
@@ -243,7 +240,7 @@ fn rewire(icu: Icu, intp: u8, timer: Timer, new_intp: u8, new_timer: Timer) -> W
     }
 }
 
-fn write_icu(icu: Icu, iw3: u8, a0: bool, x: u8) -> Turn
+pub fn write_icu(icu: Icu, iw3: u8, a0: bool, x: u8) -> Turn
     ensures { λ r. ⌜ r ≡ turnOf (IcuWords.writeOf icu iw3 a0 x) ⌝ }
 {
     let w = icu.write(iw3, a0, x);
@@ -275,7 +272,7 @@ fn write_icu(icu: Icu, iw3: u8, a0: bool, x: u8) -> Turn
     }
 }
 
-fn read_icu(icu: Icu, a0: bool, lines: u8) -> Turn
+pub fn read_icu(icu: Icu, a0: bool, lines: u8) -> Turn
     ensures { λ r. ⌜ r ≡ turnOf (IcuService.readOf icu a0 lines) ⌝ }
 {
     let g = icu.read(a0, lines);
@@ -299,7 +296,7 @@ fn read_icu(icu: Icu, a0: bool, lines: u8) -> Turn
     }
 }
 
-fn acknowledge(icu: Icu, lines: u8) -> Turn
+pub fn acknowledge(icu: Icu, lines: u8) -> Turn
     ensures { λ r. ⌜ r ≡ turnOf (IcuService.acknowledgeOf icu lines) ⌝ }
 {
     let a = icu.acknowledge(lines);
@@ -332,130 +329,13 @@ fn acknowledge(icu: Icu, lines: u8) -> Turn
 }
 
 // Whether a served DMA channel keeps the processor off the bus.
-fn is_blocked(serving: bool, o: Operation) -> bool
+pub fn is_blocked(serving: bool, o: Operation) -> bool
     ensures { λ r. ⌜ r ≡ serving and usesBus o ⌝ }
 {
     if serving {
         return o.uses_bus();
     }
     false
-}
-
-// The lesser of two numbers.
-fn least(a: usize, b: usize) -> usize
-    ensures { λ r. ⌜ r ≡ (if ltb b a then b else a) ⌝ }
-    ensures { λ r. ⌜ r ≤ a ⌝ }
-    ensures { λ r. ⌜ r ≤ b ⌝ }
-{
-    if b < a {
-        return b;
-    }
-    a
-}
-
-fn wide(x: u8) -> u64
-    ensures { λ r. ⌜ r ≡ x ⌝ }
-    ensures { λ r. ⌜ r < 256 ⌝ }
-{
-    x as u64
-}
-
-// Eight bytes as one number, little end first. A record comes from one of two places (`word_at`), and where the two meet one number is handed on and not
-// eight bytes.
-fn pack(b0: u8, b1: u8, b2: u8, b3: u8, b4: u8, b5: u8, b6: u8, b7: u8) -> u64
-    ensures { λ r. ⌜ digitsOf r ≡ b0 ∷ b1 ∷ b2 ∷ b3 ∷ b4 ∷ b5 ∷ b6 ∷ b7 ∷ [] ⌝ }
-{
-    wide(b0)
-        + wide(b1) * 256
-        + wide(b2) * 65536
-        + wide(b3) * 16777216
-        + wide(b4) * 4294967296
-        + wide(b5) * 1099511627776
-        + wide(b6) * 281474976710656
-        + wide(b7) * 72057594037927936
-}
-
-// The first record, where bytes of it were kept.
-fn kept_word(kept: [u8; 7], size: u8, tape: &[u8]) -> u64
-    ensures { λ r. ⌜ digitsOf r ≡ recordAt (take size kept ++ now (tape .entry)) 0 ⌝ }
-{
-    let b0 = tape::byte_at(kept, size, tape, 0);
-    let b1 = tape::byte_at(kept, size, tape, 1);
-    let b2 = tape::byte_at(kept, size, tape, 2);
-    let b3 = tape::byte_at(kept, size, tape, 3);
-    let b4 = tape::byte_at(kept, size, tape, 4);
-    let b5 = tape::byte_at(kept, size, tape, 5);
-    let b6 = tape::byte_at(kept, size, tape, 6);
-    let b7 = tape::byte_at(kept, size, tape, 7);
-    pack(b0, b1, b2, b3, b4, b5, b6, b7)
-}
-
-// The eight bytes of the tape from a place on.
-fn tape_word(tape: &[u8], at: usize) -> u64
-    requires { ⌜ at + 8 ≤ length (now tape) ⌝ }
-    ensures { λ r. ⌜ digitsOf r ≡ eightFrom (now (tape .entry)) at ⌝ }
-{
-    pack(
-        tape[at],
-        tape[at + 1],
-        tape[at + 2],
-        tape[at + 3],
-        tape[at + 4],
-        tape[at + 5],
-        tape[at + 6],
-        tape[at + 7],
-    )
-}
-
-// Record i of the kept bytes with the tape after them, as a number.
-fn word_at(kept: [u8; 7], size: u8, tape: &[u8], i: usize) -> u64
-    requires { ⌜ 8 * i + 8 ≤ heldOf size + length (now tape) ⌝ }
-    ensures { λ r. ⌜ digitsOf r ≡ recordAt (take size kept ++ now (tape .entry)) i ⌝ }
-{
-    let held = tape::held(size);
-    if held <= 8 * i {
-        return tape_word(tape, 8 * i - held);
-    }
-    kept_word(kept, size, tape)
-}
-
-// The same, byte by byte.
-fn record_at(kept: [u8; 7], size: u8, tape: &[u8], i: usize) -> [u8; 8]
-    requires { ⌜ 8 * i + 8 ≤ heldOf size + length (now tape) ⌝ }
-    ensures { λ r. ⌜ r ≡ recordAt (take size kept ++ now (tape .entry)) i ⌝ }
-{
-    let w = word_at(kept, size, tape, i);
-    [
-        (w % 256) as u8,
-        (w / 256 % 256) as u8,
-        (w / 65536 % 256) as u8,
-        (w / 16777216 % 256) as u8,
-        (w / 4294967296 % 256) as u8,
-        (w / 1099511627776 % 256) as u8,
-        (w / 281474976710656 % 256) as u8,
-        (w / 72057594037927936 % 256) as u8,
-    ]
-}
-
-// An answer, put into the buffer.
-fn put(to: &mut [u8], at: usize, a: [u8; 16])
-    requires { ⌜ at + 16 ≤ length (now to) ⌝ }
-    ensures { λ _. ⌜ now (to .exit) ≡ paste (now (to .entry)) at a 16 ⌝ }
-{
-    let mut j = 0;
-    while j < 16 {
-        to[at + j] = a[j];
-        j += 1;
-    }
-}
-
-// The answer of record i.
-fn tell(to: &mut [u8], i: usize, status: u8, op: u8, byte: u8, levels: u8, payload: [u8; 12])
-    requires { ⌜ 16 * i + 16 ≤ length (now to) ⌝ }
-    ensures { λ _. ⌜ now (to .exit) ≡ paste (now (to .entry)) (16 * i) (answerOf status op byte levels payload) 16 ⌝ }
-{
-    let a = tape::answer(status, op, byte, levels, payload);
-    put(to, 16 * i, a);
 }
 
 impl Board {
@@ -487,277 +367,349 @@ impl Board {
         levels_at(i, cascade::join(self.intp, s, self.slaveintp), t)
     }
 
-    // One record: the loop, over this record alone.
+    // The master's eight lines.
+    fn lines(self) -> u8
+        ensures { λ r. ⌜ r ≡ lines self ⌝ }
+    {
+        let s = self.slave;
+        let t = self.timer;
+        lines_at(cascade::join(self.intp, s, self.slaveintp), t)
+    }
+
+    // The master sees its lines go from those of the board before a record to those of the board that the record has made.
+    fn follow(self, was: Board) -> Board
+        ensures { λ r. ⌜ r ≡ followed was self ⌝ }
+    {
+        let i = self.icu;
+        let mut next = self;
+        next.icu = i.lines(was.lines(), self.lines());
+        next
+    }
+
+    // What a record comes to: this board, and the answer. `op` is the record's first byte, which the answer repeats.
+    fn tell(self, op: u8, status: u8, byte: u8, payload: [u8; 12]) -> Stepped
+        ensures { λ r. ⌜ r ≡ answeredOf op (record { status = status; board = self; byte = byte; payload = payload }) ⌝ }
+    {
+        let levels = self.levels();
+        Stepped {
+            board: self,
+            answer: tape::answer(status, op, byte, levels, payload),
+        }
+    }
+
+    // The same, where an interrupt chip says what to tell.
+    fn tell_turn(self, op: u8, t: Turn) -> Stepped
+        ensures { λ r. ⌜ r ≡ answeredOf op (record { status = t .status; board = self; byte = t .byte; payload = t .payload }) ⌝ }
+    {
+        let p = t.payload;
+        self.tell(op, t.status, t.byte, p)
+    }
+
+    fn write_master(self, op: u8, port: u8, x: u8) -> Stepped
+        ensures { λ r. ⌜ r ≡ answeredOf op (icuTold self (icuWritten self (a0 port) x)) ⌝ }
+    {
+        let i = self.icu;
+        let t = write_icu(i, cascade::MASTER_IW3, port % Icu::PORTS == 1, x);
+        let after = t.icu;
+        let mut next = self;
+        next.icu = after;
+        next.tell_turn(op, t)
+    }
+
+    // OUT0 may change, and reaches the master at once.
+    fn write_timer(self, op: u8, port: u8, x: u8) -> Stepped
+        ensures { λ r. ⌜ r ≡ answeredOf op (timerWritten self port x) ⌝ }
+    {
+        let t = self.timer;
+        let w = t.write(port, x);
+        if w.status == 0 {
+            let after = w.timer;
+            let mut next = self;
+            next.timer = after;
+            let seen = next.follow(self);
+            return seen.tell(op, 0, 0, [0u8; 12]);
+        }
+        self.tell(op, w.status, 0, [0u8; 12])
+    }
+
+    fn write_dma(self, op: u8, port: u8, x: u8) -> Stepped
+        ensures { λ r. ⌜ r ≡ answeredOf op (dmaWritten self port x) ⌝ }
+    {
+        let d = self.dma;
+        let w = d.write(port, x);
+        if w.status == 0 {
+            let after = w.dma;
+            let mut next = self;
+            next.dma = after;
+            return next.tell(op, 0, 0, [0u8; 12]);
+        }
+        self.tell(op, w.status, 0, [0u8; 12])
+    }
+
+    // The slave's INT may change, and line 7 with it.
+    fn write_slave(self, op: u8, port: u8, x: u8) -> Stepped
+        ensures { λ r. ⌜ r ≡ answeredOf op (slaveWritten self (a0 port) x) ⌝ }
+    {
+        let s = self.slave;
+        let t = write_icu(s, cascade::SLAVE_IW3, port % Icu::PORTS == 1, x);
+        if t.status == 0 {
+            let after = t.icu;
+            let mut next = self;
+            next.slave = after;
+            let seen = next.follow(self);
+            return seen.tell(op, 0, 0, [0u8; 12]);
+        }
+        self.tell(op, t.status, 0, [0u8; 12])
+    }
+
+    // The port's high digit names the chip: 0 master, 1 timer, 2 DMA chip, 3 slave.
+    fn step_write(self, op: u8, port: u8, x: u8) -> Stepped
+        ensures { λ r. ⌜ r ≡ answeredOf op (writeOf self port x) ⌝ }
+    {
+        let chip = port / 16;
+        if chip == 0 {
+            return self.write_master(op, port, x);
+        }
+        if chip == 1 {
+            return self.write_timer(op, port, x);
+        }
+        if chip == 2 {
+            return self.write_dma(op, port, x);
+        }
+        self.write_slave(op, port, x)
+    }
+
+    fn read_master(self, op: u8, port: u8) -> Stepped
+        ensures { λ r. ⌜ r ≡ answeredOf op (icuTold self (icuShown self (a0 port))) ⌝ }
+    {
+        let i = self.icu;
+        let t = read_icu(i, port % Icu::PORTS == 1, self.lines());
+        let after = t.icu;
+        let mut next = self;
+        next.icu = after;
+        next.tell_turn(op, t)
+    }
+
+    fn read_timer(self, op: u8, port: u8) -> Stepped
+        ensures { λ r. ⌜ r ≡ answeredOf op (timerShown self port) ⌝ }
+    {
+        let t = self.timer;
+        let g = t.read(port);
+        if g.status == 0 {
+            let after = g.timer;
+            let mut next = self;
+            next.timer = after;
+            return next.tell(op, 0, g.byte, [0u8; 12]);
+        }
+        self.tell(op, g.status, 0, [0u8; 12])
+    }
+
+    fn read_dma(self, op: u8, port: u8) -> Stepped
+        ensures { λ r. ⌜ r ≡ answeredOf op (dmaShown self port) ⌝ }
+    {
+        let d = self.dma;
+        let g = d.read(port);
+        if g.status == 0 {
+            let after = g.dma;
+            let mut next = self;
+            next.dma = after;
+            return next.tell(op, 0, g.byte, [0u8; 12]);
+        }
+        self.tell(op, g.status, 0, [0u8; 12])
+    }
+
+    fn read_slave(self, op: u8, port: u8) -> Stepped
+        ensures { λ r. ⌜ r ≡ answeredOf op (slaveShown self (a0 port)) ⌝ }
+    {
+        let s = self.slave;
+        self.tell_turn(op, read_icu(s, port % Icu::PORTS == 1, self.slaveintp))
+    }
+
+    fn step_read(self, op: u8, port: u8) -> Stepped
+        ensures { λ r. ⌜ r ≡ answeredOf op (readOf self port) ⌝ }
+    {
+        let chip = port / 16;
+        if chip == 0 {
+            return self.read_master(op, port);
+        }
+        if chip == 1 {
+            return self.read_timer(op, port);
+        }
+        if chip == 2 {
+            return self.read_dma(op, port);
+        }
+        self.read_slave(op, port)
+    }
+
+    // The bytes of a cut record outlast a reset.
+    fn step_reset(self, op: u8) -> Stepped
+        ensures { λ r. ⌜ r ≡ answeredOf op (done (resetOf self)) ⌝ }
+    {
+        let kept = self.kept;
+        let mut next = Board::reset();
+        next.kept = kept;
+        next.tell(op, 0, 0, [0u8; 12])
+    }
+
+    fn step_intp(self, op: u8, x: u8) -> Stepped
+        ensures { λ r. ⌜ r ≡ answeredOf op (done (followed self (intp-is x self))) ⌝ }
+    {
+        let mut next = self;
+        next.intp = x;
+        let seen = next.follow(self);
+        seen.tell(op, 0, 0, [0u8; 12])
+    }
+
+    // A gate's fall may set OUT0 high.
+    fn step_gates(self, op: u8, x: u8) -> Stepped
+        ensures { λ r. ⌜ r ≡ answeredOf op (done (followed self (timer-is (gatesOf (self .timer) x) self))) ⌝ }
+    {
+        let t = self.timer;
+        let mut next = self;
+        next.timer = t.set_gates(x);
+        let seen = next.follow(self);
+        seen.tell(op, 0, 0, [0u8; 12])
+    }
+
+    fn step_requests(self, op: u8, x: u8) -> Stepped
+        ensures { λ r. ⌜ r ≡ answeredOf op (done (dma-is (requestedOf (self .dma) x) self)) ⌝ }
+    {
+        let d = self.dma;
+        let mut next = self;
+        next.dma = d.set_requests(x);
+        next.tell(op, 0, 0, [0u8; 12])
+    }
+
+    // The slave's own lines; its INT may change, and line 7 with it.
+    fn step_slave_intp(self, op: u8, x: u8) -> Stepped
+        ensures { λ r. ⌜ r ≡ answeredOf op (done (followed self (slaveLines self x))) ⌝ }
+    {
+        let s = self.slave;
+        let mut next = self;
+        next.slave = s.lines(self.slaveintp, x);
+        next.slaveintp = x;
+        let seen = next.follow(self);
+        seen.tell(op, 0, 0, [0u8; 12])
+    }
+
+    // Level 7 is taken and passed on: the slave gives the bytes, and line 7 follows.
+    fn pass_on(self, op: u8) -> Stepped
+        ensures { λ r. ⌜ r ≡ answeredOf op (slaveGives self) ⌝ }
+    {
+        let i = self.icu;
+        let s = self.slave;
+        let t = acknowledge(s, self.slaveintp);
+        let after = t.icu;
+        let mut next = self;
+        next.icu = i.serve(7, true);
+        next.slave = after;
+        let seen = next.follow(self);
+        seen.tell_turn(op, t)
+    }
+
+    // An interrupt chip gives the vector or the CALL; status 3 where neither answers.
+    fn step_acknowledge(self, op: u8) -> Stepped
+        ensures { λ r. ⌜ r ≡ answeredOf op (acknowledgeOf self) ⌝ }
+    {
+        let i = self.icu;
+        let s = self.slave;
+        let lines = self.lines();
+        if cascade::is_passed_on(i, lines, s) {
+            return self.pass_on(op);
+        }
+        if cascade::is_answered(i, s) {
+            let t = acknowledge(i, lines);
+            let after = t.icu;
+            let mut next = self;
+            next.icu = after;
+            return next.tell_turn(op, t);
+        }
+        self.tell(op, 3, 0, [0u8; 12])
+    }
+
+    fn step_advance(self, op: u8, n: u32) -> Stepped
+        ensures { λ r. ⌜ r ≡ answeredOf op (advanceOf self n) ⌝ }
+    {
+        let i = self.icu;
+        let s = self.slave;
+        let t = self.timer;
+        let a = run_pulses(t, i, cascade::join(self.intp, s, self.slaveintp), n);
+        let rises = a.rises;
+        let icu = a.icu;
+        let timer = a.timer;
+        let mut next = self;
+        next.icu = icu;
+        next.timer = timer;
+        next.tell(op, 0, 0, rises_payload(rises))
+    }
+
+    fn step_cycle(self, op: u8, end: bool, x: u8, upper: u8, memory: &mut [u8]) -> Stepped
+        ensures result { λ r. ⌜ r ≡ answeredOf op (cycleOf self end x upper (now (memory .entry))) ⌝ }
+        ensures memory { λ _. ⌜ now (memory .exit) ≡ cycleMemory self end x upper (now (memory .entry)) ⌝ }
+    {
+        let d = self.dma;
+        let c = d.cycle(end, x, upper, memory);
+        let report = c.report;
+        let after = c.dma;
+        let mut next = self;
+        next.dma = after;
+        next.tell(op, 0, byte_moved(report), payload(report))
+    }
+
+    fn execute(self, op: u8, o: Operation, memory: &mut [u8]) -> Stepped
+        ensures result { λ r. ⌜ r ≡ answeredOf op (executeOf self o (now (memory .entry))) ⌝ }
+        ensures memory { λ _. ⌜ now (memory .exit) ≡ memoryAfter self o (now (memory .entry)) ⌝ }
+    {
+        match o {
+            Operation::Reset => {
+                return self.step_reset(op);
+            }
+            Operation::Write(port, x) => {
+                return self.step_write(op, port, x);
+            }
+            Operation::Read(port) => {
+                return self.step_read(op, port);
+            }
+            Operation::Intp(x) => {
+                return self.step_intp(op, x);
+            }
+            Operation::Gates(x) => {
+                return self.step_gates(op, x);
+            }
+            Operation::Requests(x) => {
+                return self.step_requests(op, x);
+            }
+            Operation::SlaveIntp(x) => {
+                return self.step_slave_intp(op, x);
+            }
+            Operation::Acknowledge => {
+                return self.step_acknowledge(op);
+            }
+            Operation::Advance(n) => {
+                return self.step_advance(op, n);
+            }
+            Operation::Cycle(end, x, upper) => {
+                return self.step_cycle(op, end, x, upper, memory);
+            }
+        }
+    }
+
+    // One record. (The loop over the records of a tape is `records::run`, which owns the chips and moves none; both are `stepOf`.)
     pub fn step(self, r: [u8; 8], memory: &mut [u8]) -> Stepped
         ensures result { λ s. ⌜ s ≡ stepOf self r (now (memory .entry)) ⌝ }
         ensures memory { λ _. ⌜ now (memory .exit) ≡ stepMemory self r (now (memory .entry)) ⌝ }
     {
-        let mut answer = [0u8; 16];
-        let next = self.run([0u8; 7], 0, &r, memory, &mut answer);
-        Stepped {
-            board: next,
-            answer: answer,
+        let op = r[0];
+        let decoded = tape::decode(r);
+        // not a record at all
+        let Decoded::Asked(o) = decoded else {
+            return self.tell(op, 2, 0, [0u8; 12]);
+        };
+        // the bus is with a DMA channel
+        let d = self.dma;
+        if is_blocked(d.serving, o) {
+            return self.tell(op, 1, 0, [0u8; 12]);
         }
-    }
-
-    // The whole records that some kept bytes and the tape make, one after another, as many as the buffer has room for. The loop owns the chips,
-    // and each operation is an arm that changes its own chip, puts its answer and goes on to the next record. The
-    // bytes that the board itself keeps stay as they are.
-    pub fn run(
-        self,
-        kept: [u8; 7],
-        size: u8,
-        tape: &[u8],
-        memory: &mut [u8],
-        answers: &mut [u8],
-    ) -> Board
-        ensures result { λ r. ⌜ r ≡ runOf self (now (memory .entry)) (take size kept ++ now (tape .entry)) (length (now (answers .entry))) .board ⌝ }
-        ensures memory { λ _. ⌜ now (memory .exit) ≡ runOf self (now (memory .entry)) (take size kept ++ now (tape .entry)) (length (now (answers .entry))) .memory ⌝ }
-        ensures answers { λ _. ⌜ now (answers .exit) ≡ runOf self (now (memory .entry)) (take size kept ++ now (tape .entry)) (length (now (answers .entry))) .answers ++ drop (16 * fitting (take size kept ++ now (tape .entry)) (length (now (answers .entry)))) (now (answers .entry)) ⌝ }
-    {
-        let waiting = self.kept;
-        let total = tape::count_bytes(kept, size, tape);
-        let k = least(total / 8, answers.len() / 16);
-        let mut levels = self.levels();
-        let mut icu = self.icu;
-        let mut intp = self.intp;
-        let mut slave = self.slave;
-        let mut slaveintp = self.slaveintp;
-        // INTP as the master has them, with the slave's INT on line 7
-        let mut joined = cascade::join(intp, slave, slaveintp);
-        let mut timer = self.timer;
-        let mut dma = self.dma;
-        for i in 0..k {
-            let r = record_at(kept, size, tape, i);
-            let op = r[0];
-            let d = tape::decode(r);
-            // not a record at all
-            let Decoded::Asked(o) = d else {
-                tell(answers, i, 2, op, 0, levels, [0u8; 12]);
-                continue;
-            };
-            // the bus is with a DMA channel
-            if is_blocked(dma.serving, o) {
-                tell(answers, i, 1, op, 0, levels, [0u8; 12]);
-                continue;
-            }
-            match o {
-                // the chips at their reset, INTP, the slave's lines and the DMA requests low; the memory stays
-                Operation::Reset => {
-                    icu = Icu::reset();
-                    intp = 0;
-                    slave = Icu::reset();
-                    slaveintp = 0;
-                    joined = 0;
-                    timer = Timer::reset();
-                    dma = Dma::reset();
-                    levels = 0;
-                    tell(answers, i, 0, op, 0, levels, [0u8; 12]);
-                    continue;
-                }
-                // the chip that the port's high digit names: 0 master, 1 timer, 2 DMA chip, 3 slave
-                Operation::Write(port, x) => {
-                    let chip = port / 16;
-                    if chip == 0 {
-                        let t = write_icu(icu, cascade::MASTER_IW3, port % Icu::PORTS == 1, x);
-                        let p = t.payload;
-                        icu = t.icu;
-                        levels = levels_at(icu, joined, timer);
-                        tell(answers, i, t.status, op, t.byte, levels, p);
-                        continue;
-                    }
-                    // OUT0 may change, and reaches the interrupt chip at once
-                    if chip == 1 {
-                        let w = timer.write(port, x);
-                        if w.status == 0 {
-                            let after = w.timer;
-                            let wired = rewire(icu, joined, timer, joined, after);
-                            icu = wired.icu;
-                            timer = after;
-                            levels = wired.levels;
-                            tell(answers, i, 0, op, 0, levels, [0u8; 12]);
-                            continue;
-                        }
-                        tell(answers, i, w.status, op, 0, levels, [0u8; 12]);
-                        continue;
-                    }
-                    if chip == 2 {
-                        let w = dma.write(port, x);
-                        if w.status == 0 {
-                            dma = w.dma;
-                            tell(answers, i, 0, op, 0, levels, [0u8; 12]);
-                            continue;
-                        }
-                        tell(answers, i, w.status, op, 0, levels, [0u8; 12]);
-                        continue;
-                    }
-                    // the slave's INT may change, and line 7 with it
-                    let t = write_icu(slave, cascade::SLAVE_IW3, port % Icu::PORTS == 1, x);
-                    if t.status == 0 {
-                        let after = t.icu;
-                        let now = cascade::join(intp, after, slaveintp);
-                        let wired = rewire(icu, joined, timer, now, timer);
-                        icu = wired.icu;
-                        slave = after;
-                        joined = now;
-                        levels = wired.levels;
-                        tell(answers, i, 0, op, 0, levels, [0u8; 12]);
-                        continue;
-                    }
-                    tell(answers, i, t.status, op, 0, levels, [0u8; 12]);
-                    continue;
-                }
-                // likewise; no level changes
-                Operation::Read(port) => {
-                    let chip = port / 16;
-                    if chip == 0 {
-                        let t = read_icu(icu, port % Icu::PORTS == 1, lines_at(joined, timer));
-                        let p = t.payload;
-                        tell(answers, i, t.status, op, t.byte, levels, p);
-                        continue;
-                    }
-                    // port 13H is not open to reads, so this is a counter's: `% 3` keeps the index in range and changes nothing
-                    if chip == 1 {
-                        let n = (port % Timer::PORTS % 3) as usize;
-                        let mut c = timer.counters[n];
-                        let s = c.look();
-                        c.latched = s.latched;
-                        c.second = s.second;
-                        timer.counters[n] = c;
-                        tell(answers, i, s.status, op, s.byte, levels, [0u8; 12]);
-                        continue;
-                    }
-                    if chip == 2 {
-                        let s = dma.look(port);
-                        dma.ends = s.ends;
-                        tell(answers, i, s.status, op, s.byte, levels, [0u8; 12]);
-                        continue;
-                    }
-                    let t = read_icu(slave, port % Icu::PORTS == 1, slaveintp);
-                    let p = t.payload;
-                    tell(answers, i, t.status, op, t.byte, levels, p);
-                    continue;
-                }
-                // INTP1 to INTP7; INTP0 is OUT0
-                Operation::Intp(x) => {
-                    let now = cascade::join(x, slave, slaveintp);
-                    let wired = rewire(icu, joined, timer, now, timer);
-                    icu = wired.icu;
-                    intp = x;
-                    joined = now;
-                    levels = wired.levels;
-                    tell(answers, i, 0, op, 0, levels, [0u8; 12]);
-                    continue;
-                }
-                // a gate's fall may set OUT0 high
-                Operation::Gates(x) => {
-                    let after = timer.set_gates(x);
-                    let wired = rewire(icu, joined, timer, joined, after);
-                    icu = wired.icu;
-                    timer = after;
-                    levels = wired.levels;
-                    tell(answers, i, 0, op, 0, levels, [0u8; 12]);
-                    continue;
-                }
-                Operation::Requests(x) => {
-                    dma = dma.set_requests(x);
-                    tell(answers, i, 0, op, 0, levels, [0u8; 12]);
-                    continue;
-                }
-                // the slave's own lines; its INT may change, and line 7 with it
-                Operation::SlaveIntp(x) => {
-                    let after = slave.lines(slaveintp, x);
-                    let now = cascade::join(intp, after, x);
-                    let wired = rewire(icu, joined, timer, now, timer);
-                    icu = wired.icu;
-                    slave = after;
-                    slaveintp = x;
-                    joined = now;
-                    levels = wired.levels;
-                    tell(answers, i, 0, op, 0, levels, [0u8; 12]);
-                    continue;
-                }
-                // an interrupt chip gives the vector or the CALL
-                Operation::Acknowledge => {
-                    let lines = lines_at(joined, timer);
-                    // level 7 is taken and passed on: the slave gives the bytes, and line 7 follows
-                    if cascade::is_passed_on(icu, lines, slave) {
-                        let t = acknowledge(slave, slaveintp);
-                        let p = t.payload;
-                        let after = t.icu;
-                        let now = cascade::join(intp, after, slaveintp);
-                        let wired = rewire(icu.serve(7, true), joined, timer, now, timer);
-                        icu = wired.icu;
-                        slave = after;
-                        joined = now;
-                        levels = wired.levels;
-                        tell(answers, i, t.status, op, t.byte, levels, p);
-                        continue;
-                    }
-                    if cascade::is_answered(icu, slave) {
-                        let t = acknowledge(icu, lines);
-                        let p = t.payload;
-                        icu = t.icu;
-                        levels = levels_at(icu, joined, timer);
-                        tell(answers, i, t.status, op, t.byte, levels, p);
-                        continue;
-                    }
-                    tell(answers, i, 3, op, 0, levels, [0u8; 12]);
-                    continue;
-                }
-                // one clock for the three counters; OUT0 reaches the interrupt chip after each pulse
-                Operation::Advance(n) => {
-                    let a = run_pulses(timer, icu, joined, n);
-                    let rises = a.rises;
-                    timer = a.timer;
-                    icu = a.icu;
-                    levels = levels_at(icu, joined, timer);
-                    tell(answers, i, 0, op, 0, levels, rises_payload(rises));
-                    continue;
-                }
-                // of the DMA chip a plain unit changes its channel alone, and is done here; `Dma::cycle` does any other cycle
-                Operation::Cycle(end, x, upper) => {
-                    let n = dma.channel;
-                    let at = (n % 4) as usize;
-                    let c = dma.channels[at];
-                    if dma::is_plain(c, dma.serving, n, dma.requests, end) {
-                        let carried = c.transfer(x, upper, memory);
-                        dma.channels[at] = c.advance(false);
-                        let p = moved_payload(
-                            n,
-                            false,
-                            false,
-                            c.current.address,
-                            carried.outside,
-                            carried.upper,
-                        );
-                        tell(answers, i, 0, op, carried.byte, levels, p);
-                        continue;
-                    }
-                    let cycled = dma.cycle(end, x, upper, memory);
-                    let report = cycled.report;
-                    dma = cycled.dma;
-                    tell(
-                        answers,
-                        i,
-                        0,
-                        op,
-                        byte_moved(report),
-                        levels,
-                        payload(report),
-                    );
-                    continue;
-                }
-            }
-        }
-        Board {
-            icu: icu,
-            intp: intp,
-            slave: slave,
-            slaveintp: slaveintp,
-            timer: timer,
-            dma: dma,
-            kept: waiting,
-        }
+        self.execute(op, o, memory)
     }
 }

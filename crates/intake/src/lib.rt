@@ -195,7 +195,7 @@ pub fn feed(board: Board, tape: &[u8], memory: &mut [u8], answers: &mut [u8]) ->
             board: board,
         };
     }
-    let mut next = board.run(kept, size, tape, memory, answers);
+    let mut next = records::run(board, kept, size, tape, memory, answers);
     let rest = rest_at(kept, size, tape, k);
     let waiting = Kept {
         bytes: rest,

@@ -6,7 +6,7 @@ use Rattle.intake.proofs.feed.Statement.{statement}
 use Rattle.intake.proofs.feed.Tie as tie
 use Rattle.intake.proofs.feed.Reads as reads
 use Rattle.intake.proofs.feed.Lts as lts
-use Rattle.board.proofs.Board.run.Reads as run-reads
+use Rattle.records.proofs.run.Reads as run-reads
 use Rattle.intake.proofs.is_in_range.Reads as is-in-range-reads
 use Rattle.intake.proofs.rest_at.Reads as rest-at-reads
 use Rattle.tape.proofs.count_bytes.Reads as count-bytes-reads

@@ -1,34 +1,67 @@
-use borrow.Kind.Array.{good-length, eInt}
-use mir.Syntax.{w8}
-use mathlib.Core.Path.{refl, _∙_}
-use mathlib.Core.List.{[], _∷_}
+use Rattle.board.specs.Step.{blocked, memoryOf, outcomeOf, stepMemory, stepOf}
 use borrow.Author.Needs.{needs}
-use Rattle.board.proofs.Runs.{one, both}
+use Rattle.dma.specs.Registers.{taken}
 use Rattle.board.proofs.Board.step.Statement.{statement}
 use Rattle.board.proofs.Board.step.Tie as tie
 use Rattle.board.proofs.Board.step.Reads as reads
 use Rattle.board.proofs.Board.step.Lts as lts
-use Rattle.board.proofs.Board.run.Reads as run-reads
+use Rattle.board.proofs.Board.execute.Reads as execute-reads
+use Rattle.board.proofs.Board.tell.Reads as tell-reads
+use Rattle.board.proofs.is_blocked.Reads as is-blocked-reads
+use Rattle.tape.proofs.decode.Reads as decode-reads
 
-slice-aggregate-run : tie.Need-slice-aggregate-run
-slice-aggregate-run c = search needs
+array-read-op : tie.Need-array-read-op
+array-read-op c = search needs
 
-slice-aggregate-run-2 : tie.Need-slice-aggregate-run-2
-slice-aggregate-run-2 c = search needs
+decode-requires : tie.Need-decode-requires
+decode-requires c κs = search needs
 
-run-requires : tie.Need-run-requires
-run-requires c κs = search needs
+enum-known-decoded : tie.Need-enum-known-decoded
+enum-known-decoded c = search needs
+
+enum-told : tie.Need-enum-told
+enum-told c = search needs
+
+tell-requires : tie.Need-tell-requires
+tell-requires c κs = search needs
+
+returns : tie.Need-returns
+unfolding blocked outcomeOf memoryOf stepOf stepMemory
+returns c = (rw (c .tell .ensures, ← c .before .before .before .decode .ensures, c .before .enum-told .given .1), rw (← c .before .before .before .decode .ensures, c .before .enum-told .given .1))
+
+is-blocked-requires : tie.Need-is-blocked-requires
+is-blocked-requires c κs = search needs
+
+tell-requires-2 : tie.Need-tell-requires-2
+tell-requires-2 c κs = search needs
+
+returns-2 : tie.Need-returns-2
+unfolding blocked outcomeOf memoryOf stepOf stepMemory
+returns-2 c = (rw (c .tell2 .ensures, ← c .before .before .before .before .before .before .before .decode .ensures, c .before .before .before .before .before .decoded .given .1, ← c .before .before .is-blocked .ensures, c .before .if1 .taken), rw (← c .before .before .before .before .before .before .before .decode .ensures, c .before .before .before .before .before .decoded .given .1, ← c .before .before .is-blocked .ensures, c .before .if1 .taken))
+
+execute-requires : tie.Need-execute-requires
+execute-requires c κs = search needs
 
 same-length : tie.Need-same-length
 same-length c = search needs
 
-returns : tie.Need-returns
-returns c =
-    let a = c .before .before .before .before .before .before .before .before .args in
-    let u = c .before .before .before .run in
-    let o = one (a .self) (a .memory .now) (a .t2) (0 ∷ 0 ∷ 0 ∷ 0 ∷ 0 ∷ 0 ∷ 0 ∷ 0 ∷ 0 ∷ 0 ∷ 0 ∷ 0 ∷ 0 ∷ 0 ∷ 0 ∷ 0 ∷ []) (good-length (eInt w8) 8 (a .t2) _ (c .before .before .before .before .before .before .before .before .good .1 .0)) refl in
-    (both _ _ _ (u .ensures .0 ∙ o .0) (u .ensures .1 .1 ∙ o .2), u .ensures .1 .0 ∙ o .1)
+returns-3 : tie.Need-returns-3
+unfolding blocked outcomeOf memoryOf stepOf stepMemory
+returns-3 c = (rw (c .before .before .execute .ensures .0, ← c .before .before .before .before .before .before .before .before .before .before .decode .ensures, c .before .before .before .before .before .before .before .before .decoded .given .1, ← c .before .before .before .before .before .is-blocked .ensures, c .before .before .before .before .if1 .left), rw (c .before .before .execute .ensures .1, ← c .before .before .before .before .before .before .before .before .before .before .decode .ensures, c .before .before .before .before .before .before .before .before .decoded .given .1, ← c .before .before .before .before .before .is-blocked .ensures, c .before .before .before .before .if1 .left))
 
 pub step-spec : {M : Type 1} → statement M
 step-spec =
-    tie.close (tie.spec slice-aggregate-run slice-aggregate-run-2 run-requires same-length returns)
+    tie.close
+    (tie.spec
+    array-read-op
+    decode-requires
+    enum-known-decoded
+    enum-told
+    tell-requires
+    returns
+    is-blocked-requires
+    tell-requires-2
+    returns-2
+    execute-requires
+    same-length
+    returns-3)

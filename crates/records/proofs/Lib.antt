@@ -1,0 +1,4 @@
+pub mod Arms
+pub mod Lists
+pub mod Runs
+pub mod Words
