@@ -30,93 +30,63 @@ const UPPER: u8 = 40;
 const NOT_OF: u8 = 48;
 
 // After the equals sign: a question mark alone, or items.
-pub fn take(line: &[u8; 1000], n: usize, p: Parsed) -> Parsed {
+pub fn take(line: &[u8; 1000], n: usize, mut p: Parsed) -> Parsed {
     let w = word::next_word(line, n, p.at);
     if word::which(b"? ", line, w.start, w.end) == 0 {
-        let mut next = p;
-        next.at = w.end;
-        next.check = Parsed::ASKED;
-        next.wrong = line::NOTHING;
-        return line::close(line, n, next);
+        p.at = w.end;
+        p.check = Parsed::ASKED;
+        p.wrong = line::NOTHING;
+        return line::close(line, n, p);
     }
     take_items(line, n, p)
 }
 
 // Items up to a colon, a comment or the end of the line.
-pub fn take_items(line: &[u8; 1000], n: usize, p: Parsed) -> Parsed {
+pub fn take_items(line: &[u8; 1000], n: usize, mut p: Parsed) -> Parsed {
     let first = word::next_word(line, n, p.at);
-    let mut next = p;
-    next.check = Parsed::SAID;
-    next.said = first.start;
+    p.check = Parsed::SAID;
+    p.said = first.start;
     let mut turns: usize = 0;
     while turns < 1000 {
-        let w = word::next_word(line, n, next.at);
-        if is_over(line, w) {
-            return end_items(line, w, next, turns);
+        let w = word::next_word(line, n, p.at);
+        if (w.start == w.end) | (word::byte_at(line, w.start) == b':') {
+            return end_items(line, w, p, turns);
         }
-        next = take_item(line, n, next, w);
-        if next.kind == Parsed::BAD {
-            return next;
+        p = take_item(line, n, p, w);
+        if p.kind == Parsed::BAD {
+            return p;
         }
-        next.end = next.at;
+        p.end = p.at;
         turns += 1;
     }
-    next
+    p
 }
 
-fn is_over(line: &[u8; 1000], w: Word) -> bool {
-    if w.start == w.end {
-        return true;
+// There is at least one, and a colon ends those of a guess alone. Where nothing is said of the status, a record is done.
+fn end_items(line: &[u8; 1000], w: Word, mut p: Parsed, items: usize) -> Parsed {
+    let kind = p.kind;
+    if (0 < items) & ((w.start == w.end) | (kind == Parsed::GUESS)) {
+        p.mask[0] = 255;
+        return p;
     }
-    word::byte_at(line, w.start) == b':'
-}
-
-// There is at least one. Where nothing is said of the status, a record is done.
-fn end_items(line: &[u8; 1000], w: Word, p: Parsed, items: usize) -> Parsed {
-    if items == 0 {
-        return line::bad_word(line, w, missing(p.kind));
-    }
-    let mut next = p;
-    next.mask[0] = 255;
-    if p.kind == Parsed::GUESS {
-        return next;
-    }
-    if w.start == w.end {
-        return next;
-    }
-    line::bad_word(line, w, missing(p.kind))
-}
-
-fn missing(kind: u8) -> u8 {
-    if kind == Parsed::EXPECT {
-        return EXPECTED;
-    }
-    ITEM
+    let wrong = match kind {
+        Parsed::EXPECT => EXPECTED,
+        _ => ITEM,
+    };
+    line::bad_word(line, w, wrong)
 }
 
 const THE_OUT: u8 = 3;
 
 const THE_INT: u8 = 4;
 
-const THE_BYTE: u8 = 14;
+const THE_UNIT: u8 = 9;
 
-// The items by number; 14 is a byte.
-fn item(line: &[u8], w: Word) -> u8 {
-    if w.kind == Word::BYTE {
-        return THE_BYTE;
-    }
-    match word::which(
-        b"done refused call out int rises nothing grant leave unit end free outside upper ",
-        line,
-        w.start,
-        w.end,
-    ) {
-        14 => 15,
-        i => i,
-    }
-}
+const NO_ITEM: u8 = 14;
 
-// The byte of the answer that an item is about first, and the bits of it.
+const THE_BYTE: u8 = 15;
+
+// The byte of the answer that an item is about first, and what that is if no number follows.
 fn place_of(item: u8) -> usize {
     match item {
         0 => 0,
@@ -132,216 +102,189 @@ fn place_of(item: u8) -> usize {
     }
 }
 
-fn bits_of(item: u8) -> u8 {
+// A CALL starts with CD.
+fn value_of(item: u8, byte: u8) -> u8 {
     match item {
+        2 => 0xcd,
+        7 => 1,
+        8 => 3,
+        THE_UNIT => 2,
+        10 => 1,
+        11 => 1,
+        12 => 1,
+        THE_BYTE => byte,
+        _ => 0,
+    }
+}
+
+// What is wrong with an item, where these bits of its byte were said before; 0 if nothing is. Only levels may be expected by themselves, and of a record what its answer can have; what was guessed may be anything.
+fn fault(kind: u8, op: u8, item: u8, before: u8) -> u8 {
+    let wrong = match kind {
+        Parsed::EXPECT => match item {
+            THE_OUT => 0,
+            THE_INT => 0,
+            _ => EXPECTED,
+        },
+        _ => match item {
+            NO_ITEM => ITEM,
+            _ => match kind {
+                Parsed::GUESS => 0,
+                _ => fault_of_answer(op, item),
+            },
+        },
+    };
+    if (wrong == 0) & (before != 0) {
+        return TWICE;
+    }
+    wrong
+}
+
+// A byte is of the answer to a read, an acknowledge and a cycle; most items are of a cycle alone.
+fn fault_of_answer(op: u8, item: u8) -> u8 {
+    let own = match item {
+        0 => op,
+        1 => op,
+        2 => 4,
+        THE_OUT => op,
+        THE_INT => op,
+        5 => 5,
+        THE_BYTE => match op {
+            2 => 2,
+            4 => 4,
+            _ => 6,
+        },
+        _ => 6,
+    };
+    if op == own {
+        return 0;
+    }
+    NOT_OF
+}
+
+fn take_item(line: &[u8; 1000], n: usize, mut p: Parsed, w: Word) -> Parsed {
+    // the items by number
+    let mut item = word::which(
+        b"done refused call out int rises nothing grant leave unit end free outside upper ",
+        line,
+        w.start,
+        w.end,
+    );
+    if w.kind == Word::BYTE {
+        item = THE_BYTE;
+    }
+    // the bits of its byte that it is about
+    let bits = match item {
         THE_OUT => 7,
         THE_INT => 8,
         _ => 255,
+    };
+    let place = place_of(item) % 16;
+    let wrong = fault(p.kind, p.bytes[0], item, p.mask[place] & bits);
+    if wrong != 0 {
+        return line::bad_word(line, w, wrong);
     }
+    p.at = w.end;
+    p.number = value_of(item, w.byte) as u32;
+    take_value(line, n, expect(p, place, place + 1, bits), item)
 }
 
-// Only levels may be expected by themselves, and of a record what its answer can have; what was guessed may be anything.
-fn is_allowed(kind: u8, op: u8, item: u8) -> bool {
+// The number of a line, in the bytes of the answer from a place to another, little end first. These bits of each are meant.
+fn expect(mut p: Parsed, from: usize, to: usize, bits: u8) -> Parsed {
+    if p.kind == Parsed::BAD {
+        return p;
+    }
+    let mut rest = p.number;
+    let mut i = from;
+    while i < to {
+        let k = i % 16;
+        p.expected[k] = p.expected[k] | (rest % 256) as u8;
+        p.mask[k] = p.mask[k] | bits;
+        rest = rest / 256;
+        i += 1;
+    }
+    p
+}
+
+// What follows the word of an item.
+fn take_value(line: &[u8; 1000], n: usize, p: Parsed, item: u8) -> Parsed {
     match item {
-        THE_OUT => true,
-        THE_INT => true,
-        15 => false,
-        _ => match kind {
-            Parsed::EXPECT => false,
-            Parsed::GUESS => true,
-            _ => is_of(op, item),
-        },
-    }
-}
-
-// Whether an answer to an operation can have it: a byte is of a read, an acknowledge and a cycle.
-fn is_of(op: u8, item: u8) -> bool {
-    match item {
-        0 => true,
-        1 => true,
-        2 => op == 4,
-        5 => op == 5,
-        THE_BYTE => match op {
-            2 => true,
-            4 => true,
-            _ => op == 6,
-        },
-        _ => op == 6,
-    }
-}
-
-fn take_item(line: &[u8; 1000], n: usize, p: Parsed, w: Word) -> Parsed {
-    let i = item(line, w);
-    if is_allowed(p.kind, p.bytes[0], i) {
-        let place = place_of(i) % 16;
-        if p.mask[place] & bits_of(i) != 0 {
-            return line::bad_word(line, w, TWICE);
-        }
-        let mut next = p;
-        next.at = w.end;
-        return take_value(line, n, next, i, w.byte);
-    }
-    if i < 15 {
-        return line::bad_word(line, w, not_of(p.kind));
-    }
-    line::bad_word(line, w, missing(p.kind))
-}
-
-fn not_of(kind: u8) -> u8 {
-    match kind {
-        Parsed::EXPECT => EXPECTED,
-        _ => NOT_OF,
-    }
-}
-
-// A byte of the answer, with these bits meant.
-fn expect(p: Parsed, place: usize, value: u8, bits: u8) -> Parsed {
-    let i = place % 16;
-    let mut next = p;
-    next.expected[i] = p.expected[i] | value;
-    next.mask[i] = p.mask[i] | bits;
-    next
-}
-
-fn take_value(line: &[u8; 1000], n: usize, p: Parsed, item: u8, byte: u8) -> Parsed {
-    match item {
-        0 => expect(p, 0, 0, 255),
-        1 => put(line::take_number(line, n, p, 16, 1, 6, STATUS), 0),
+        1 => expect(line::take_number(line, n, p, 16, 1, 6, STATUS), 0, 1, 255),
         2 => take_call(line, n, p),
         THE_OUT => take_outs(line, n, p),
         THE_INT => take_int(line, n, p),
         5 => take_rises(line, n, p),
-        6 => expect(p, 4, 0, 255),
-        7 => take_channel(line, n, p, 1),
-        8 => take_channel(line, n, p, 3),
-        9 => take_unit(line, n, p),
-        10 => expect(p, 6, 1, 255),
-        11 => expect(p, 7, 1, 255),
-        12 => expect(p, 12, 1, 255),
-        13 => put(line::take_number(line, n, p, 16, 0, 255, UPPER), 13),
-        _ => expect(p, 2, byte, 255),
-    }
-}
-
-// The number that was taken, as a byte of the answer.
-fn put(p: Parsed, place: usize) -> Parsed {
-    if p.kind == Parsed::BAD {
-        return p;
-    }
-    expect(p, place, (p.number % 256) as u8, 255)
-}
-
-// The same in four bytes, little end first.
-fn put_four(p: Parsed, place: usize) -> Parsed {
-    if p.kind == Parsed::BAD {
-        return p;
-    }
-    let v = line::little(p.number);
-    let k = place % 16;
-    expect(
-        expect(
-            expect(expect(p, k, v[0], 255), k + 1, v[1], 255),
-            k + 2,
-            v[2],
+        7 | 8 | THE_UNIT => take_channel(line, n, p, item),
+        13 => expect(
+            line::take_number(line, n, p, 16, 0, 255, UPPER),
+            13,
+            14,
             255,
         ),
-        k + 3,
-        v[3],
-        255,
-    )
+        _ => p,
+    }
 }
 
-// A CALL is CD and the address, its low byte first.
+// The address of a CALL, in four digits. (No word starts past 999.)
 fn take_call(line: &[u8; 1000], n: usize, p: Parsed) -> Parsed {
     let w = word::next_word(line, n, p.at);
-    if is_long(w, 4) {
-        let next = line::take_number(line, n, p, 16, 0, 65535, CALL);
-        if next.kind == Parsed::BAD {
-            return next;
-        }
-        let v = line::little(next.number);
-        return expect(
-            expect(expect(next, 4, 0xcd, 255), 5, v[0], 255),
-            6,
-            v[1],
-            255,
-        );
+    if w.start % 1000 + 4 == w.end {
+        return expect(line::take_number(line, n, p, 16, 0, 65535, CALL), 5, 7, 255);
     }
     line::bad_word(line, w, CALL)
 }
 
-// Whether a word has so many characters.
-fn is_long(w: Word, length: usize) -> bool {
-    if w.end < w.start {
-        return false;
-    }
-    w.end - w.start == length
-}
-
-// Three digits, the first for OUT0, each 0 or 1.
-fn take_outs(line: &[u8; 1000], n: usize, p: Parsed) -> Parsed {
+// Three digits, the first for OUT0.
+fn take_outs(line: &[u8; 1000], n: usize, mut p: Parsed) -> Parsed {
     let w = word::next_word(line, n, p.at);
-    if is_long(w, 3) {
-        let at = w.start % 998;
-        let a = word::digit(line[at]);
-        let b = word::digit(line[at + 1]);
-        let c = word::digit(line[at + 2]);
-        if a | b | c < 2 {
-            let mut next = p;
-            next.at = w.end;
-            return expect(next, 3, a % 2 + b % 2 * 2 + c % 2 * 4, 7);
-        }
+    let outs = word::which(b"000 100 010 110 001 101 011 111 ", line, w.start, w.end);
+    if 7 < outs {
         return line::bad_word(line, w, OUTS);
     }
-    line::bad_word(line, w, OUTS)
+    p.at = w.end;
+    p.number = outs as u32;
+    expect(p, 3, 4, 7)
 }
 
 fn take_int(line: &[u8; 1000], n: usize, p: Parsed) -> Parsed {
-    let next = line::take_number(line, n, p, 10, 0, 1, INT);
-    if next.kind == Parsed::BAD {
-        return next;
-    }
-    expect(next, 3, (next.number % 2 * 8) as u8, 8)
+    let mut next = line::take_number(line, n, p, 10, 0, 1, INT);
+    next.number = next.number % 2 * 8;
+    expect(next, 3, 4, 8)
 }
 
 // One to three numbers; those that are left out are 0.
 fn take_rises(line: &[u8; 1000], n: usize, p: Parsed) -> Parsed {
-    let first = put_four(line::take_number(line, n, p, 10, 0, 65535, RISES), 4);
+    let first = line::take_number(line, n, p, 10, 0, 65535, RISES);
     if first.kind == Parsed::BAD {
         return first;
     }
-    take_rise(line, n, take_rise(line, n, first, 8), 12)
+    let second = take_rise(line, n, expect(first, 4, 8, 255));
+    let third = take_rise(line, n, expect(second, 8, 12, 255));
+    expect(third, 12, 16, 255)
 }
 
 // A number more, if one stands there.
-fn take_rise(line: &[u8; 1000], n: usize, p: Parsed, place: usize) -> Parsed {
+fn take_rise(line: &[u8; 1000], n: usize, mut p: Parsed) -> Parsed {
     let w = word::next_word(line, n, p.at);
-    let mut next = p;
-    next.number = 0;
     let v = word::number(line, w, 10);
+    p.number = 0;
     if v < 65536 {
-        next.number = (v % 65536) as u32;
-        next.at = w.end;
+        p.number = (v % 65536) as u32;
+        p.at = w.end;
     }
-    put_four(next, place)
+    p
 }
 
-// What a cycle came to, and the channel.
-fn take_channel(line: &[u8; 1000], n: usize, p: Parsed, kind: u8) -> Parsed {
-    put(
-        line::take_number(line, n, expect(p, 4, kind, 255), 10, 0, 3, CHANNEL),
-        5,
-    )
-}
-
-fn take_unit(line: &[u8; 1000], n: usize, p: Parsed) -> Parsed {
-    let next = take_channel(line, n, p, 2);
-    if next.kind == Parsed::BAD {
+// A unit has an address besides.
+fn take_channel(line: &[u8; 1000], n: usize, p: Parsed, item: u8) -> Parsed {
+    let next = expect(line::take_number(line, n, p, 10, 0, 3, CHANNEL), 5, 6, 255);
+    if (item != THE_UNIT) | (next.kind == Parsed::BAD) {
         return next;
     }
-    put_four(
+    expect(
         line::take_number(line, n, next, 16, 0, 16777215, ADDRESS),
         8,
+        12,
+        255,
     )
 }
 
@@ -357,12 +300,11 @@ pub fn is_met(answer: [u8; 16], expected: [u8; 16], mask: [u8; 16]) -> bool {
 }
 
 // In a chart every byte of an answer is meant, and byte 1 is the record's operation.
-pub fn whole(p: Parsed) -> Parsed {
-    let mut next = p;
-    next.check = Parsed::SAID;
-    next.expected[1] = p.bytes[0];
-    next.mask = [255u8; 16];
-    next
+pub fn whole(mut p: Parsed) -> Parsed {
+    p.check = Parsed::SAID;
+    p.expected[1] = p.bytes[0];
+    p.mask = [255u8; 16];
+    p
 }
 
 // Whether two lines expect the same.

@@ -64,11 +64,16 @@ impl Parsed {
     pub const SAID: u8 = 2;
 
     pub fn new(kind: u8, at: usize) -> Parsed {
+        // what is expected after the last word of a line
+        let wrong = match kind {
+            Parsed::RECORD => NOTHING,
+            _ => THE_REST,
+        };
         Parsed {
             kind: kind,
             bytes: [0u8; 8],
             column: 0,
-            wrong: rest_of(kind),
+            wrong: wrong,
             at: at,
             times: 1,
             from: 0,
@@ -93,14 +98,6 @@ impl Parsed {
         p.wrong = wrong;
         p.bytes = bytes;
         p
-    }
-}
-
-// What is expected after the last word of a line.
-fn rest_of(kind: u8) -> u8 {
-    match kind {
-        Parsed::RECORD => NOTHING,
-        _ => THE_REST,
     }
 }
 
@@ -181,16 +178,20 @@ pub fn is_about_byte(wrong: u8) -> bool {
 
 // A word that is not understood: a byte in it that may not be seen for what it is, or else what was expected in its place.
 pub fn bad_word(line: &[u8; 1000], w: Word, expected: u8) -> Parsed {
-    let at = word::find_strange(line, w.start, w.end);
-    if w.end <= at {
-        if w.kind == Word::BAD_TEXT {
-            return Parsed::bad(w.start, BAD_TEXT, [0u8; 8]);
-        }
-        return Parsed::bad(w.start, expected, [0u8; 8]);
+    let kind = w.kind;
+    let start = w.start;
+    let end = w.end;
+    let at = word::find_strange(line, start, end);
+    if end <= at {
+        let wrong = match kind {
+            Word::BAD_TEXT => BAD_TEXT,
+            _ => expected,
+        };
+        return Parsed::bad(start, wrong, [0u8; 8]);
     }
-    let first = byte_after(line, at, 0, w.end);
-    let second = byte_after(line, at, 1, w.end);
-    let third = byte_after(line, at, 2, w.end);
+    let first = word::byte_at(line, at);
+    let second = byte_after(line, at, 1, end);
+    let third = byte_after(line, at, 2, end);
     Parsed::bad(
         at,
         name_strange(at, first, second, third),
@@ -198,71 +199,56 @@ pub fn bad_word(line: &[u8; 1000], w: Word, expected: u8) -> Parsed {
     )
 }
 
-// The byte k places after another of a word, 0 past its end.
+// The byte k places after another of a word, which stands before 1000; 0 past its end.
 fn byte_after(line: &[u8; 1000], at: usize, k: usize, end: usize) -> u8 {
-    if 999 < at {
-        return 0;
-    }
-    let i = at + k % 3;
+    let i = at % 1000 + k % 3;
     if i < end {
         return word::byte_at(line, i);
     }
     0
 }
 
-// The sentence for a byte that is no plain character, by its place, itself and the two after it.
+// The sentence for a byte that is no plain character, by its place, itself and the two after it. E2 80 80 to 8F and A8 to AF are spaces and marks that are not seen, and so are E2 81 9F to AF.
 fn name_strange(at: usize, first: u8, second: u8, third: u8) -> u8 {
-    match first {
-        b'\r' => CARRIAGE_RETURN,
-        127 => CONTROL,
-        0xc2 => name_after_c2(second),
-        0xe2 => name_after_e2(second, third),
-        0xe3 => name_if_both(second == 0x80, third == 0x80, ODD_SPACE),
-        0xef => name_if_both(second == 0xbb, third == 0xbf, BYTE_ORDER_MARK),
-        0xfe => name_if_both(at == 0, second == 0xff, UTF_16),
-        0xff => name_if_both(at == 0, second == 0xfe, UTF_16),
-        _ => match first / 32 {
-            0 => CONTROL,
-            _ => NOT_ASCII,
-        },
-    }
-}
-
-fn name_if_both(one: bool, other: bool, name: u8) -> u8 {
-    if one {
-        if other {
-            return name;
-        }
-        return NOT_ASCII;
-    }
-    NOT_ASCII
-}
-
-fn name_after_c2(second: u8) -> u8 {
-    match second {
-        0xa0 => NO_BREAK_SPACE,
-        0xad => SOFT_HYPHEN,
-        _ => NOT_ASCII,
-    }
-}
-
-// E2 80 80 to 8F and A8 to AF are spaces and marks that are not seen, and so are E2 81 9F to AF.
-fn name_after_e2(second: u8, third: u8) -> u8 {
-    match second {
-        0x80 => match third / 8 {
-            16 => ODD_SPACE,
-            17 => ODD_SPACE,
+    let three = first as u32 * 65536 + second as u32 * 256 + third as u32;
+    match three / 16 {
+        0xe2808 => ODD_SPACE,
+        // A8 to AF
+        0xe280a => match third / 8 {
             21 => ODD_SPACE,
             _ => NOT_ASCII,
         },
-        0x81 => match third {
-            0x9f => ODD_SPACE,
-            _ => match third / 16 {
-                10 => ODD_SPACE,
+        0xe281a => ODD_SPACE,
+        _ => match three {
+            0xe2819f => ODD_SPACE,
+            0xe38080 => ODD_SPACE,
+            0xefbbbf => BYTE_ORDER_MARK,
+            _ => name_of_two(at, first, three / 256),
+        },
+    }
+}
+
+// The same by the first two of them. The mark of UTF-16 stands at the start of a text.
+fn name_of_two(at: usize, first: u8, two: u32) -> u8 {
+    match two {
+        0xc2a0 => NO_BREAK_SPACE,
+        0xc2ad => SOFT_HYPHEN,
+        0xfeff => match at {
+            0 => UTF_16,
+            _ => NOT_ASCII,
+        },
+        0xfffe => match at {
+            0 => UTF_16,
+            _ => NOT_ASCII,
+        },
+        _ => match first {
+            b'\r' => CARRIAGE_RETURN,
+            127 => CONTROL,
+            _ => match first / 32 {
+                0 => CONTROL,
                 _ => NOT_ASCII,
             },
         },
-        _ => NOT_ASCII,
     }
 }
 
@@ -279,7 +265,7 @@ pub fn close(line: &[u8; 1000], n: usize, p: Parsed) -> Parsed {
 pub fn take_number(
     line: &[u8; 1000],
     n: usize,
-    p: Parsed,
+    mut p: Parsed,
     base: u8,
     least: u64,
     most: u64,
@@ -287,29 +273,21 @@ pub fn take_number(
 ) -> Parsed {
     let w = word::next_word(line, n, p.at);
     let v = word::number(line, w, base);
-    if v < least {
+    if (v < least) | (most < v) {
         return bad_word(line, w, expected);
     }
-    if most < v {
-        return bad_word(line, w, expected);
-    }
-    let mut next = p;
-    next.at = w.end;
-    next.number = (v % 4294967296) as u32;
-    next
-}
-
-fn low_byte(v: u32) -> u8 {
-    (v % 256) as u8
+    p.at = w.end;
+    p.number = (v % 4294967296) as u32;
+    p
 }
 
 // Four bytes of a number, little end first.
 pub fn little(v: u32) -> [u8; 4] {
     [
-        low_byte(v),
-        low_byte(v / 256),
-        low_byte(v / 65536),
-        low_byte(v / 16777216),
+        (v % 256) as u8,
+        (v / 256 % 256) as u8,
+        (v / 65536 % 256) as u8,
+        (v / 16777216 % 256) as u8,
     ]
 }
 
@@ -324,81 +302,69 @@ fn take_advance(line: &[u8; 1000], n: usize, p: Parsed) -> Parsed {
 }
 
 // After the word cycle: a text, or the device's lower byte, then its upper one, then the word end; or nothing.
-fn take_cycle(line: &[u8; 1000], n: usize, p: Parsed) -> Parsed {
+fn take_cycle(line: &[u8; 1000], n: usize, mut p: Parsed) -> Parsed {
     let lower = word::next_word(line, n, p.at);
-    let mut next = p;
-    next.bytes = [6, 0, 0, 0, 0, 0, 0, 0];
     let kind = lower.kind;
+    let end = lower.end;
+    p.bytes = [6, 0, 0, 0, 0, 0, 0, 0];
     match kind {
-        Word::TEXT => cycle_text(next, lower.start, lower.end),
-        Word::BYTE => {
-            next.bytes[2] = lower.byte;
-            next.at = lower.end;
-            take_upper(line, n, next)
+        // it stands for as many records as it has characters between its quotes
+        Word::TEXT => {
+            p.at = end;
+            p.from = lower.start % 1000 + 1;
+            if 0 < end {
+                p.to = end - 1;
+            }
+            p
         }
+        Word::BYTE => take_upper(line, n, p, lower.byte, end),
         _ => {
-            next.wrong = DEVICE;
-            next
+            p.wrong = DEVICE;
+            p
         }
     }
 }
 
-// A text stands for as many records as it has characters between its quotes.
-fn cycle_text(p: Parsed, start: usize, end: usize) -> Parsed {
-    let mut next = p;
-    next.at = end;
-    if start < 1000 {
-        if 0 < end {
-            next.from = start + 1;
-            next.to = end - 1;
-            return next;
-        }
-        return next;
+// After the device's lower byte, which ends at a place.
+fn take_upper(line: &[u8; 1000], n: usize, mut p: Parsed, lower: u8, at: usize) -> Parsed {
+    let mut w = word::next_word(line, n, at);
+    let mut upper: u8 = 0;
+    p.at = at;
+    p.wrong = UPPER;
+    if w.kind == Word::BYTE {
+        upper = w.byte;
+        p.at = w.end;
+        p.wrong = END;
+        w = word::next_word(line, n, w.end);
     }
-    next
-}
-
-fn take_upper(line: &[u8; 1000], n: usize, p: Parsed) -> Parsed {
-    let upper = word::next_word(line, n, p.at);
-    let mut next = p;
-    if upper.kind == Word::BYTE {
-        next.bytes[3] = upper.byte;
-        next.at = upper.end;
-        next.wrong = END;
-        return take_end(line, n, next);
-    }
-    next.wrong = UPPER;
-    take_end(line, n, next)
-}
-
-fn take_end(line: &[u8; 1000], n: usize, p: Parsed) -> Parsed {
-    let w = word::next_word(line, n, p.at);
+    let mut end: u8 = 0;
     if word::which(b"end ", line, w.start, w.end) == 0 {
-        let mut next = p;
-        next.bytes[1] = 1;
-        next.at = w.end;
-        next.wrong = NOTHING;
-        return next;
+        end = 1;
+        p.at = w.end;
+        p.wrong = NOTHING;
     }
+    p.bytes = [6, end, lower, upper, 0, 0, 0, 0];
     p
 }
 
-// A line that is bytes after its first word: what its record starts with, which of its bytes follow, and what is expected where one is missing.
+// A line that is bytes after its first word: what its record starts with, which of its bytes follow, and what is expected where the first of them is missing, or another.
 struct Form {
     op: u8,
     group: u8,
     from: usize,
     to: usize,
-    expected: u8,
+    first: u8,
+    other: u8,
 }
 
-fn make_form(op: u8, group: u8, from: usize, to: usize, expected: u8) -> Form {
+fn make_form(op: u8, group: u8, from: usize, to: usize, first: u8, other: u8) -> Form {
     Form {
         op: op,
         group: group,
         from: from,
         to: to,
-        expected: expected,
+        first: first,
+        other: other,
     }
 }
 
@@ -419,73 +385,58 @@ const THE_CYCLE: u8 = 10;
 // The form of the verbs before these.
 fn form_of(verb: u8) -> Form {
     match verb {
-        0 => make_form(1, 0, 1, 3, PORT),
-        1 => make_form(2, 0, 1, 2, PORT),
-        2 => make_form(3, 0, 2, 3, LEVELS),
-        3 => make_form(3, 1, 2, 3, LEVELS),
-        4 => make_form(3, 2, 2, 3, LEVELS),
-        5 => make_form(3, 3, 2, 3, LEVELS),
-        6 => make_form(0, 0, 0, 0, NOTHING),
-        7 => make_form(4, 0, 0, 0, NOTHING),
-        _ => make_form(0, 0, 0, 8, RAW),
+        0 => make_form(1, 0, 1, 3, PORT, DATA),
+        1 => make_form(2, 0, 1, 2, PORT, PORT),
+        2 => make_form(3, 0, 2, 3, LEVELS, LEVELS),
+        3 => make_form(3, 1, 2, 3, LEVELS, LEVELS),
+        4 => make_form(3, 2, 2, 3, LEVELS, LEVELS),
+        5 => make_form(3, 3, 2, 3, LEVELS, LEVELS),
+        6 => make_form(0, 0, 0, 0, NOTHING, NOTHING),
+        7 => make_form(4, 0, 0, 0, NOTHING, NOTHING),
+        _ => make_form(0, 0, 0, 8, RAW, RAW),
     }
 }
 
-fn missing(expected: u8, k: usize) -> u8 {
-    if expected == PORT {
-        if k == 2 {
-            return DATA;
-        }
-        return PORT;
-    }
-    expected
-}
-
-fn take_bytes(line: &[u8; 1000], n: usize, p: Parsed, f: Form) -> Parsed {
+fn take_bytes(line: &[u8; 1000], n: usize, mut p: Parsed, f: Form) -> Parsed {
     let mut r = [f.op, f.group, 0, 0, 0, 0, 0, 0];
-    let mut from = p.at;
+    let mut at = p.at;
+    let mut expected = f.first;
     let to = f.to;
     let mut k = f.from;
     while k < to {
-        let w = word::next_word(line, n, from);
+        let w = word::next_word(line, n, at);
         if w.kind != Word::BYTE {
-            return bad_word(line, w, missing(f.expected, k));
+            return bad_word(line, w, expected);
         }
         let i = k % 8;
         r[i] = w.byte;
-        from = w.end;
+        at = w.end;
+        expected = f.other;
         k += 1;
     }
-    let mut next = p;
-    next.bytes = r;
-    next.at = from;
-    next
+    p.bytes = r;
+    p.at = at;
+    p
 }
 
-fn take_record(line: &[u8; 1000], n: usize, at: usize, verb: u8) -> Parsed {
-    let p = Parsed::new(Parsed::RECORD, at);
-    match verb {
-        THE_ADVANCE => take_advance(line, n, p),
-        THE_CYCLE => take_cycle(line, n, p),
-        _ => take_bytes(line, n, p, form_of(verb)),
-    }
-}
-
-// After a record: what its answer is expected to be, or nothing more.
-fn take_check(line: &[u8; 1000], n: usize, p: Parsed) -> Parsed {
+// A record that comes so often, and what its answer is expected to be, or nothing more.
+fn take_record(line: &[u8; 1000], n: usize, at: usize, verb: u8, times: u32) -> Parsed {
+    let mut start = Parsed::new(Parsed::RECORD, at);
+    start.times = times;
+    let mut p = match verb {
+        THE_ADVANCE => take_advance(line, n, start),
+        THE_CYCLE => take_cycle(line, n, start),
+        _ => take_bytes(line, n, start, form_of(verb)),
+    };
     if p.kind == Parsed::BAD {
         return p;
     }
     let w = word::next_word(line, n, p.at);
-    if w.start == w.end {
-        return p;
+    if (w.kind == Word::SIGN) & (word::byte_at(line, w.start) == b'=') {
+        p.at = w.end;
+        return check::take(line, n, p);
     }
-    if word::byte_at(line, w.start) == b'=' {
-        let mut next = p;
-        next.at = w.end;
-        return check::take(line, n, next);
-    }
-    bad_word(line, w, p.wrong)
+    close(line, n, p)
 }
 
 // How often, and a record.
@@ -507,9 +458,7 @@ fn take_repeat(line: &[u8; 1000], n: usize, at: usize) -> Parsed {
     if THE_CYCLE < v {
         return bad_word(line, w, RECORDS);
     }
-    let mut next = take_record(line, n, w.end, v);
-    next.times = p.number;
-    take_check(line, n, next)
+    take_record(line, n, w.end, v, p.number)
 }
 
 // An address, and bytes or texts.
@@ -519,28 +468,21 @@ fn take_memory(line: &[u8; 1000], n: usize, at: usize, kind: u8) -> Parsed {
         return p;
     }
     p.from = p.at;
-    let mut bytes = word::Bytes::start(p.at);
+    let mut bytes = word::Bytes::start(p.at).next(line, n);
     let mut length: u32 = 0;
-    while length < 1000 {
+    while length < 1000 && bytes.more {
         bytes = bytes.next(line, n);
-        if !bytes.more {
-            return end_memory(line, n, p, bytes.at, length);
-        }
         length += 1;
     }
-    p
-}
-
-fn end_memory(line: &[u8; 1000], n: usize, p: Parsed, at: usize, length: u32) -> Parsed {
-    let mut next = p;
-    next.at = at;
-    next.end = at;
-    next.wrong = BYTES;
-    next.length = length;
+    let end = bytes.at;
+    p.at = end;
+    p.end = end;
+    p.wrong = BYTES;
+    p.length = length;
     if length == 0 {
-        return bad_word(line, word::next_word(line, n, at), BYTES);
+        return bad_word(line, word::next_word(line, n, end), BYTES);
     }
-    close(line, n, next)
+    close(line, n, p)
 }
 
 fn take_expect(line: &[u8; 1000], n: usize, at: usize) -> Parsed {
@@ -564,53 +506,50 @@ fn take_lend(line: &[u8; 1000], n: usize, at: usize) -> Parsed {
 // What is shown: 0 all, 1 the master, 2 the slave, 3 the timer, 4 the DMA chip.
 fn take_show(line: &[u8; 1000], n: usize, at: usize) -> Parsed {
     let w = word::next_word(line, n, at);
-    let mut p = Parsed::new(Parsed::SHOW, w.end);
-    if w.start == w.end {
-        return p;
-    }
     let chip = word::which(b"master slave timer dma ", line, w.start, w.end);
-    if 3 < chip {
-        return bad_word(line, w, CHIP);
+    let mut p = Parsed::new(Parsed::SHOW, at);
+    // any other word is told by `close`
+    p.wrong = CHIP;
+    if chip < 4 {
+        p.number = chip as u32 + 1;
+        p.at = w.end;
+        p.wrong = THE_REST;
     }
-    p.number = chip as u32 + 1;
     close(line, n, p)
 }
 
 // What the guess was, a colon, and what is said to it.
 fn take_guess(line: &[u8; 1000], n: usize, at: usize) -> Parsed {
-    let p = check::take_items(line, n, Parsed::new(Parsed::GUESS, at));
+    let mut p = check::take_items(line, n, Parsed::new(Parsed::GUESS, at));
     if p.kind == Parsed::BAD {
         return p;
     }
     let colon = word::next_word(line, n, p.at);
-    if word::byte_at(line, colon.start) == b':' {
-        let first = word::next_word(line, n, colon.end);
-        if first.start == first.end {
-            return bad_word(line, first, ANSWER);
-        }
-        let mut next = p;
-        next.from = first.start;
-        next.to = n;
-        next.at = n;
-        return next;
+    if word::byte_at(line, colon.start) != b':' {
+        return bad_word(line, colon, COLON);
     }
-    bad_word(line, colon, COLON)
+    let first = word::next_word(line, n, colon.end);
+    if first.start == first.end {
+        return bad_word(line, first, ANSWER);
+    }
+    p.from = first.start;
+    p.to = n;
+    p.at = n;
+    p
 }
 
 // A name of up to 64 characters: the rest of the line.
 fn take_name(line: &[u8; 1000], n: usize, at: usize) -> Parsed {
     let first = word::next_word(line, n, at);
+    let start = first.start;
     let end = word::end_of_words(line, n, at);
-    let mut p = Parsed::new(Parsed::CHART, end);
-    p.from = first.start;
-    p.to = end;
-    if end <= first.start {
-        return bad_word(line, first, NAME);
+    if start < end && end - start < 65 {
+        let mut p = Parsed::new(Parsed::CHART, end);
+        p.from = start;
+        p.to = end;
+        return p;
     }
-    if 64 < end - first.start {
-        return Parsed::bad(first.start, NAME, [0u8; 8]);
-    }
-    p
+    Parsed::bad(start, NAME, [0u8; 8])
 }
 
 // The word after `card`, or none.
@@ -629,7 +568,25 @@ pub fn parse(line: &[u8; 1000], n: usize) -> Parsed {
     if at < end {
         return Parsed::bad(at, CARRIAGE_RETURN, [0u8; 8]);
     }
-    parse_words(line, end)
+    let first = word::next_word(line, end, 0);
+    let after = first.end;
+    if first.start == after {
+        return Parsed::new(Parsed::EMPTY, 0);
+    }
+    let v = verb(line, first.start, after);
+    match v {
+        11 => take_repeat(line, end, after),
+        12 => take_expect(line, end, after),
+        13 => take_memory(line, end, after, Parsed::MEMORY),
+        14 => take_lend(line, end, after),
+        15 => take_show(line, end, after),
+        16 => take_guess(line, end, after),
+        17 => take_name(line, end, after),
+        18 => take_card(line, end, after),
+        19 => close(line, end, Parsed::new(Parsed::AGAIN, after)),
+        20 => bad_word(line, first, WORD),
+        _ => take_record(line, end, after, v, 1),
+    }
 }
 
 // What is wrong with a line that is too long, by its first bytes: a text whose lines end in carriage returns alone is one such line.
@@ -650,27 +607,4 @@ pub fn without_return(line: &[u8; 1000], n: usize) -> usize {
         return n - 1;
     }
     n
-}
-
-fn parse_words(line: &[u8; 1000], n: usize) -> Parsed {
-    let w = word::next_word(line, n, 0);
-    if w.start == w.end {
-        return Parsed::new(Parsed::EMPTY, 0);
-    }
-    let v = verb(line, w.start, w.end);
-    if v <= THE_CYCLE {
-        return take_check(line, n, take_record(line, n, w.end, v));
-    }
-    match v {
-        11 => take_repeat(line, n, w.end),
-        12 => take_expect(line, n, w.end),
-        13 => take_memory(line, n, w.end, Parsed::MEMORY),
-        14 => take_lend(line, n, w.end),
-        15 => take_show(line, n, w.end),
-        16 => take_guess(line, n, w.end),
-        17 => take_name(line, n, w.end),
-        18 => take_card(line, n, w.end),
-        19 => close(line, n, Parsed::new(Parsed::AGAIN, w.end)),
-        _ => bad_word(line, w, WORD),
-    }
 }

@@ -11,22 +11,25 @@ fn last_four(r: [u8; 16]) -> u8 {
 
 // The sentence of the line that stands for a record: whatever has no line of its own is raw.
 pub fn sentence(r: [u8; 16]) -> u8 {
-    if r[0] == 5 {
-        return match r[1] | r[2] | r[3] {
+    let op = r[0];
+    let x = r[1];
+    let y = r[2];
+    let z = r[3];
+    let last = last_four(r);
+    match op {
+        5 => match x | y | z {
             0 => 0x09,
             _ => 0x00,
-        };
-    }
-    if r[0] == 6 {
-        return match last_four(r) {
-            0 => cycle_sentence(r[1], r[2], r[3]),
+        },
+        6 => match last {
+            0 => cycle_sentence(x, y, z),
             _ => 0x00,
-        };
+        },
+        _ => match z | last {
+            0 => short_sentence(op, x, y),
+            _ => 0x00,
+        },
     }
-    if is_zero_later(r) {
-        return short_sentence(r[0], r[1], r[2]);
-    }
-    0x00
 }
 
 // The upper byte goes unsaid where it is 00, and the lower one too where nothing follows it.

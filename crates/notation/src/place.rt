@@ -46,54 +46,23 @@ impl Place {
 
     // The line itself, or a bad one if it may not stand here.
     pub fn judge(self, p: Parsed) -> Parsed {
-        let wrong = self.fault(p);
-        if wrong == 0 {
-            return p;
-        }
-        Parsed::bad(0, wrong, [0u8; 8])
-    }
-
-    // 0 if a line may stand here.
-    fn fault(self, p: Parsed) -> u8 {
         let kind = p.kind;
-        match kind {
-            Parsed::MEMORY => self.memory_fault(p.number, p.length, true),
-            Parsed::EXPECT_MEMORY => self.memory_fault(p.number, p.length, false),
-            Parsed::LEND => self.lend_fault(p.number),
+        let late = 0 < self.records;
+        let past = (self.lent as u64) < p.number as u64 + p.length as u64;
+        let wrong = match kind {
+            Parsed::MEMORY => first_fault(late, past, PAST),
+            Parsed::EXPECT_MEMORY => fault_if(past, PAST),
+            Parsed::LEND => first_fault(late, self.chart & (CHART_MEMORY < p.number), CHART),
             Parsed::GUESS => fault_if(!self.checked, UNCHECKED),
             Parsed::CARD => fault_if(!self.typed, TYPED),
             Parsed::AGAIN => fault_if(!self.typed, TYPED),
             Parsed::RECORD => fault_if(self.typed & (p.check == Parsed::ASKED), ASKED),
             _ => 0,
+        };
+        if wrong == 0 {
+            return p;
         }
-    }
-
-    fn memory_fault(self, address: u32, length: u32, first: bool) -> u8 {
-        if first {
-            if 0 < self.records {
-                return LATE;
-            }
-        }
-        if self.lent < length {
-            return PAST;
-        }
-        if self.lent - length < address {
-            return PAST;
-        }
-        0
-    }
-
-    fn lend_fault(self, length: u32) -> u8 {
-        if 0 < self.records {
-            return LATE;
-        }
-        if self.chart {
-            if CHART_MEMORY < length {
-                return CHART;
-            }
-            return 0;
-        }
-        0
+        Parsed::bad(0, wrong, [0u8; 8])
     }
 
     // The place of the line after a bad one, which may have had a check.
@@ -103,15 +72,14 @@ impl Place {
     }
 
     // The place of the line after a good one.
-    pub fn after(self, p: Parsed) -> Place {
+    pub fn after(mut self, p: Parsed) -> Place {
         let kind = p.kind;
-        let mut next = self;
         match kind {
             Parsed::EMPTY => self,
             Parsed::GUESS => self,
             Parsed::LEND => {
-                next.lent = p.number;
-                next
+                self.lent = p.number;
+                self
             }
             Parsed::CHART => Place {
                 typed: self.typed,
@@ -122,23 +90,26 @@ impl Place {
             },
             Parsed::AGAIN => Place::start(self.typed),
             Parsed::RECORD => {
-                next.records = one_more(self.records);
-                next.checked = 0 < p.check;
-                next
+                if self.records < u64::MAX {
+                    self.records += 1;
+                }
+                self.checked = 0 < p.check;
+                self
             }
             _ => {
-                next.checked = 0 < p.check;
-                next
+                self.checked = 0 < p.check;
+                self
             }
         }
     }
 }
 
-fn one_more(n: u64) -> u64 {
-    if n < u64::MAX {
-        return n + 1;
+// What is wrong with a line that stands before the first record, 0 if nothing is.
+fn first_fault(late: bool, wrong: bool, sentence: u8) -> u8 {
+    if late {
+        return LATE;
     }
-    n
+    fault_if(wrong, sentence)
 }
 
 fn fault_if(wrong: bool, sentence: u8) -> u8 {

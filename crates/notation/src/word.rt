@@ -35,46 +35,53 @@ impl Word {
     }
 }
 
-// Whether a word ends at a byte, or where blanks are passed over, whether they do. A comment ends both.
-fn is_end_of(b: u8, word: bool) -> bool {
-    match b {
-        b' ' => word,
-        b'\t' => word,
-        b'#' => true,
-        b'=' => true,
-        b':' => true,
-        _ => !word,
+// What is looked for in a line: where a word starts, where it ends, a quote, a carriage return, or a byte that is no plain character.
+const WORD: u8 = 0;
+
+const WORD_END: u8 = 1;
+
+const QUOTE: u8 = 2;
+
+const RETURN: u8 = 3;
+
+const STRANGE: u8 = 4;
+
+// A comment starts where a word may, and ends one.
+fn is_such(b: u8, sought: u8) -> bool {
+    match sought {
+        WORD => (b != b' ') & (b != b'\t'),
+        WORD_END => match b {
+            b' ' | b'\t' | b'#' | b'=' | b':' => true,
+            _ => false,
+        },
+        QUOTE => b == b'"',
+        RETURN => b == b'\r',
+        _ => (b < 32) | (126 < b),
     }
 }
 
-// Where the word that starts at `at` ends, or where the blanks there do; n where nothing else follows.
-fn skip(line: &[u8; 1000], n: usize, at: usize, word: bool) -> usize {
-    let mut i = at;
+// The first byte, from start to end, that is such as is looked for; end where there is none.
+fn find(line: &[u8; 1000], start: usize, end: usize, sought: u8) -> usize {
+    let mut i = start;
     while i < 1000 {
-        if n <= i {
-            return n;
+        if end <= i {
+            return end;
         }
-        if is_end_of(line[i], word) {
+        if is_such(line[i], sought) {
             return i;
         }
         i += 1;
     }
-    n
+    end
 }
 
-// Where the text ends whose first quote stands before `at`: past its last quote, or at n where it has none.
-fn skip_text(line: &[u8; 1000], n: usize, at: usize) -> usize {
-    let mut i = at;
-    while i < 1000 {
-        if n <= i {
-            return n;
-        }
-        if line[i] == b'"' {
-            return i + 1;
-        }
-        i += 1;
-    }
-    n
+// The first byte, from start to end, that is no plain character; end where there is none.
+pub fn find_strange(line: &[u8; 1000], start: usize, end: usize) -> usize {
+    find(line, start, end, STRANGE)
+}
+
+pub fn find_return(line: &[u8; 1000], end: usize) -> usize {
+    find(line, 0, end, RETURN)
 }
 
 // Which word of a list stands in s from start to end, counted from 0; how many there are where none does. In the list a space follows each.
@@ -89,7 +96,9 @@ pub fn which(list: &[u8], s: &[u8], start: usize, end: usize) -> u8 {
             if at == end {
                 return n;
             }
-            n = one_more(n);
+            if n < 255 {
+                n += 1;
+            }
             at = start;
             continue;
         }
@@ -98,22 +107,9 @@ pub fn which(list: &[u8], s: &[u8], start: usize, end: usize) -> u8 {
     n
 }
 
-fn one_more(n: u8) -> u8 {
-    if n < 255 {
-        return n + 1;
-    }
-    n
-}
-
 // The place after `at` if the byte there is c; else one that no word ends at.
 fn after(s: &[u8], at: usize, end: usize, c: u8) -> usize {
-    if s.len() <= at {
-        return usize::MAX;
-    }
-    if end <= at {
-        return usize::MAX;
-    }
-    if s[at] == c {
+    if at < end && at < s.len() && s[at] == c {
         return at + 1;
     }
     usize::MAX
@@ -123,25 +119,15 @@ fn after(s: &[u8], at: usize, end: usize, c: u8) -> usize {
 pub fn digit(b: u8) -> u8
     ensures { λ r. ⌜ r < 17 ⌝ }
 {
-    if b < b'0' {
-        return 16;
+    // in lower case, if it is a letter
+    let letter = b | 32;
+    match b {
+        b'0'..=b'9' => b - b'0',
+        _ => match letter {
+            b'a'..=b'f' => letter - 87,
+            _ => 16,
+        },
     }
-    if b <= b'9' {
-        return b - b'0';
-    }
-    if b < b'A' {
-        return 16;
-    }
-    if b <= b'F' {
-        return b - 55;
-    }
-    if b < b'a' {
-        return 16;
-    }
-    if b <= b'f' {
-        return b - 87;
-    }
-    16
 }
 
 pub fn byte_at(line: &[u8; 1000], i: usize) -> u8 {
@@ -156,139 +142,66 @@ pub const NONE: u64 = u64::MAX;
 
 // A word of digits, in base 10 or 16, as a number: every one of 32 bits, and some more. NONE for anything else.
 pub fn number(line: &[u8; 1000], w: Word, base: u8) -> u64 {
-    let start = w.start;
     let end = w.end;
-    if end <= start {
+    let mut i = w.start;
+    if end <= i {
         return NONE;
     }
     let mut v: u64 = 0;
-    let mut i = start;
     while i < end {
-        if 999 < i {
-            return NONE;
-        }
-        let d = digit(line[i]);
-        if base <= d {
-            return NONE;
-        }
-        v = append(v, base, d);
+        v = append(v, base, digit(byte_at(line, i)));
         i += 1;
     }
     v
 }
 
-// A number with a digit more.
+// A number with a digit more, or NONE, which stays so.
 fn append(v: u64, base: u8, d: u8) -> u64 {
-    if 429496729 < v {
+    if 429496729 < v || base <= d {
         return NONE;
     }
-    if base == 10 {
-        return v * 10 + d as u64;
+    match base {
+        10 => v * 10 + d as u64,
+        _ => v * 16 + d as u64,
     }
-    v * 16 + d as u64
-}
-
-fn byte_word(start: usize, end: usize, high: u8, low: u8) -> Word {
-    if high < 16 {
-        if low < 16 {
-            return Word::new(start, end, Word::BYTE, high * 16 + low);
-        }
-        return Word::new(start, end, Word::OTHER, 0);
-    }
-    Word::new(start, end, Word::OTHER, 0)
-}
-
-fn text_word(line: &[u8; 1000], start: usize, end: usize) -> Word {
-    let strange = find_strange(line, start, end);
-    if end < 3 {
-        return Word::new(start, end, Word::BAD_TEXT, 0);
-    }
-    // no text without a character between its quotes
-    if end - 3 < start {
-        return Word::new(start, end, Word::BAD_TEXT, 0);
-    }
-    if strange < end {
-        return Word::new(start, end, Word::BAD_TEXT, 0);
-    }
-    if byte_at(line, end - 1) == b'"' {
-        return Word::new(start, end, Word::TEXT, 0);
-    }
-    Word::new(start, end, Word::BAD_TEXT, 0)
 }
 
 // The next word of a line of n bytes, from a place on.
 pub fn next_word(line: &[u8; 1000], n: usize, at: usize) -> Word {
-    let start = skip(line, n, at, false);
+    let start = find(line, at, n, WORD);
     if n <= start {
         return Word::new(start, start, Word::OTHER, 0);
     }
     match byte_at(line, start) {
-        b'"' => quoted(line, n, start),
-        b'=' => sign(start),
-        b':' => sign(start),
-        _ => plain_word(line, start, skip(line, n, start, true)),
+        b'"' => text_word(line, n, start),
+        b'=' | b':' => Word::new(start, past(start), Word::SIGN, 0),
+        _ => plain_word(line, start, find(line, start, n, WORD_END)),
     }
 }
 
-fn quoted(line: &[u8; 1000], n: usize, start: usize) -> Word {
-    if start < 1000 {
-        return text_word(line, start, skip_text(line, n, start + 1));
+// A text, from its first quote to its last, or to n where it has only one.
+fn text_word(line: &[u8; 1000], n: usize, start: usize) -> Word {
+    let first = past(start);
+    let last = find(line, first, n, QUOTE);
+    if n <= last {
+        return Word::new(start, n, Word::BAD_TEXT, 0);
     }
-    Word::new(start, start, Word::OTHER, 0)
+    let mut kind = Word::BAD_TEXT;
+    if (first < last) & (find_strange(line, first, last) == last) {
+        kind = Word::TEXT;
+    }
+    Word::new(start, past(last), kind, 0)
 }
 
-fn sign(start: usize) -> Word {
-    if start < 1000 {
-        return Word::new(start, start + 1, Word::SIGN, 0);
-    }
-    Word::new(start, start, Word::OTHER, 0)
-}
-
+// A word of one or two hexadecimal digits is a byte.
 fn plain_word(line: &[u8; 1000], start: usize, end: usize) -> Word {
-    if end <= start {
-        return Word::new(start, start, Word::OTHER, 0);
+    let mut w = Word::new(start, end, Word::OTHER, 0);
+    let v = number(line, w, 16);
+    if (end <= past(past(start))) & (v < 256) {
+        w.kind = Word::BYTE;
+        w.byte = (v % 256) as u8;
     }
-    let first = digit(byte_at(line, start));
-    if end - start == 1 {
-        return byte_word(start, end, 0, first);
-    }
-    if end - start == 2 {
-        return byte_word(start, end, first, digit(byte_at(line, start + 1)));
-    }
-    Word::new(start, end, Word::OTHER, 0)
-}
-
-// The first byte, from start to end, that is no plain character; end where there is none.
-pub fn find_strange(line: &[u8; 1000], start: usize, end: usize) -> usize {
-    find(line, start, end, false)
-}
-
-pub fn find_return(line: &[u8; 1000], end: usize) -> usize {
-    find(line, 0, end, true)
-}
-
-fn find(line: &[u8; 1000], start: usize, end: usize, is_return: bool) -> usize {
-    let mut i = start;
-    while i < 1000 {
-        if end <= i {
-            return end;
-        }
-        if is_strange(line[i], is_return) {
-            return i;
-        }
-        i += 1;
-    }
-    end
-}
-
-fn is_strange(b: u8, is_return: bool) -> bool {
-    if is_return {
-        return b == b'\r';
-    }
-    if b < 32 {
-        return true;
-    }
-    126 < b
+    w
 }
 
 // Where the last word of a line ends, from a place on; that place where there is none.

@@ -5,15 +5,15 @@ use Rattle.notation.proofs.check.take_items.Tie as tie
 use Rattle.notation.proofs.check.take_items.Reads as reads
 use Rattle.notation.proofs.check.take_items.Lts as lts
 use Rattle.notation.proofs.check.end_items.Reads as end-items-reads
-use Rattle.notation.proofs.check.is_over.Reads as is-over-reads
 use Rattle.notation.proofs.check.take_item.Reads as take-item-reads
+use Rattle.notation.proofs.word.byte_at.Reads as byte-at-reads
 use Rattle.notation.proofs.word.next_word.Reads as next-word-reads
 
 abbrev Inv-loop : tie.InvT-loop
-Inv-loop line n next₀ turns₀ next turns = Unit {0}
+Inv-loop line n p₀ turns₀ p turns = Unit {0}
 
 abbrev μ-loop : tie.MeasureT-loop
-μ-loop line n next₀ turns₀ next turns = 1000 - turns
+μ-loop line n p₀ turns₀ p turns = 1000 - turns
 
 next-word-requires : tie.Need-next-word-requires Inv-loop μ-loop
 next-word-requires c κs = search needs
@@ -24,8 +24,8 @@ loop-holds c = search needs
 next-word-requires-2 : tie.Need-next-word-requires-2 Inv-loop μ-loop
 next-word-requires-2 c κs = search needs
 
-is-over-requires : tie.Need-is-over-requires Inv-loop μ-loop
-is-over-requires c κs = search needs
+byte-at-requires : tie.Need-byte-at-requires Inv-loop μ-loop
+byte-at-requires c κs = search needs
 
 end-items-requires : tie.Need-end-items-requires Inv-loop μ-loop
 end-items-requires c κs = search needs
@@ -60,7 +60,7 @@ take-items-spec =
     next-word-requires
     loop-holds
     next-word-requires-2
-    is-over-requires
+    byte-at-requires
     end-items-requires
     returns
     take-item-requires

@@ -5,23 +5,19 @@ use Rattle.notation.proofs.line.take_bytes.Tie as tie
 use Rattle.notation.proofs.line.take_bytes.Reads as reads
 use Rattle.notation.proofs.line.take_bytes.Lts as lts
 use Rattle.notation.proofs.line.bad_word.Reads as bad-word-reads
-use Rattle.notation.proofs.line.missing.Reads as missing-reads
 use Rattle.notation.proofs.word.next_word.Reads as next-word-reads
 
 abbrev Inv-loop : tie.InvT-loop
-Inv-loop line n at f r₀ from₀ to k₀ r from k = Unit {0}
+Inv-loop line n p f r₀ at₀ expected₀ to k₀ r at expected k = Unit {0}
 
 abbrev μ-loop : tie.MeasureT-loop
-μ-loop line n at f r₀ from₀ to k₀ r from k = to - k
+μ-loop line n p f r₀ at₀ expected₀ to k₀ r at expected k = to - k
 
 loop-holds : tie.Need-loop-holds Inv-loop μ-loop
 loop-holds c = search needs
 
 next-word-requires : tie.Need-next-word-requires Inv-loop μ-loop
 next-word-requires c κs = search needs
-
-missing-requires : tie.Need-missing-requires Inv-loop μ-loop
-missing-requires c κs = search needs
 
 bad-word-requires : tie.Need-bad-word-requires Inv-loop μ-loop
 bad-word-requires c κs = search needs
@@ -52,7 +48,6 @@ take-bytes-spec =
     μ-loop
     loop-holds
     next-word-requires
-    missing-requires
     bad-word-requires
     returns
     array-write-r

@@ -5,10 +5,12 @@ use Rattle.notation.proofs.line.take_memory.Tie as tie
 use Rattle.notation.proofs.line.take_memory.Reads as reads
 use Rattle.notation.proofs.line.take_memory.Lts as lts
 use Rattle.notation.proofs.line.Parsed.new.Reads as new-reads
-use Rattle.notation.proofs.line.end_memory.Reads as end-memory-reads
+use Rattle.notation.proofs.line.bad_word.Reads as bad-word-reads
+use Rattle.notation.proofs.line.close.Reads as close-reads
 use Rattle.notation.proofs.line.take_number.Reads as take-number-reads
 use Rattle.notation.proofs.word.Bytes.next.Reads as next-reads
 use Rattle.notation.proofs.word.Bytes.start.Reads as start-reads
+use Rattle.notation.proofs.word.next_word.Reads as next-word-reads
 
 abbrev Inv-loop : tie.InvT-loop
 Inv-loop line n at kind p bytes₀ length₀ bytes length = Unit {0}
@@ -28,17 +30,14 @@ returns c = search needs
 start-requires : tie.Need-start-requires Inv-loop μ-loop
 start-requires c κs = search needs
 
-loop-holds : tie.Need-loop-holds Inv-loop μ-loop
-loop-holds c = search needs
-
 next-requires : tie.Need-next-requires Inv-loop μ-loop
 next-requires c κs = search needs
 
-end-memory-requires : tie.Need-end-memory-requires Inv-loop μ-loop
-end-memory-requires c κs = search needs
+loop-holds : tie.Need-loop-holds Inv-loop μ-loop
+loop-holds c = search needs
 
-returns-2 : tie.Need-returns-2 Inv-loop μ-loop
-returns-2 c = search needs
+next-requires-2 : tie.Need-next-requires-2 Inv-loop μ-loop
+next-requires-2 c κs = search needs
 
 add-length : tie.Need-add-length Inv-loop μ-loop
 add-length c = search needs
@@ -48,6 +47,18 @@ loop-less c = search needs
 
 loop-again : tie.Need-loop-again Inv-loop μ-loop
 loop-again c = search needs
+
+next-word-requires : tie.Need-next-word-requires Inv-loop μ-loop
+next-word-requires c κs = search needs
+
+bad-word-requires : tie.Need-bad-word-requires Inv-loop μ-loop
+bad-word-requires c κs = search needs
+
+returns-2 : tie.Need-returns-2 Inv-loop μ-loop
+returns-2 c = search needs
+
+close-requires : tie.Need-close-requires Inv-loop μ-loop
+close-requires c κs = search needs
 
 returns-3 : tie.Need-returns-3 Inv-loop μ-loop
 returns-3 c = search needs
@@ -62,11 +73,14 @@ take-memory-spec =
     take-number-requires
     returns
     start-requires
-    loop-holds
     next-requires
-    end-memory-requires
-    returns-2
+    loop-holds
+    next-requires-2
     add-length
     loop-less
     loop-again
+    next-word-requires
+    bad-word-requires
+    returns-2
+    close-requires
     returns-3)

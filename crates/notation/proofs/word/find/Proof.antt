@@ -4,13 +4,13 @@ use Rattle.notation.proofs.word.find.Statement.{statement}
 use Rattle.notation.proofs.word.find.Tie as tie
 use Rattle.notation.proofs.word.find.Reads as reads
 use Rattle.notation.proofs.word.find.Lts as lts
-use Rattle.notation.proofs.word.is_strange.Reads as is-strange-reads
+use Rattle.notation.proofs.word.is_such.Reads as is-such-reads
 
 abbrev Inv-loop : tie.InvT-loop
-Inv-loop line start end is_return i₀ i = Unit {0}
+Inv-loop line start end sought i₀ i = Unit {0}
 
 abbrev μ-loop : tie.MeasureT-loop
-μ-loop line start end is_return i₀ i = 1000 - i
+μ-loop line start end sought i₀ i = 1000 - i
 
 loop-holds : tie.Need-loop-holds Inv-loop μ-loop
 loop-holds c = search needs
@@ -18,11 +18,11 @@ loop-holds c = search needs
 returns : tie.Need-returns Inv-loop μ-loop
 returns c = search needs
 
-element-copy-out-is-strange : tie.Need-element-copy-out-is-strange Inv-loop μ-loop
-element-copy-out-is-strange c = search needs
+element-copy-out-is-such : tie.Need-element-copy-out-is-such Inv-loop μ-loop
+element-copy-out-is-such c = search needs
 
-is-strange-requires : tie.Need-is-strange-requires Inv-loop μ-loop
-is-strange-requires c κs = search needs
+is-such-requires : tie.Need-is-such-requires Inv-loop μ-loop
+is-such-requires c κs = search needs
 
 returns-2 : tie.Need-returns-2 Inv-loop μ-loop
 returns-2 c = search needs
@@ -47,8 +47,8 @@ find-spec =
     μ-loop
     loop-holds
     returns
-    element-copy-out-is-strange
-    is-strange-requires
+    element-copy-out-is-such
+    is-such-requires
     returns-2
     add-i
     loop-less

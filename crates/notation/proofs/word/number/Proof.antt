@@ -4,14 +4,15 @@ use Rattle.notation.proofs.word.number.Statement.{statement}
 use Rattle.notation.proofs.word.number.Tie as tie
 use Rattle.notation.proofs.word.number.Reads as reads
 use Rattle.notation.proofs.word.number.Lts as lts
-use Rattle.notation.proofs.word.digit.Reads as digit-reads
 use Rattle.notation.proofs.word.append.Reads as append-reads
+use Rattle.notation.proofs.word.byte_at.Reads as byte-at-reads
+use Rattle.notation.proofs.word.digit.Reads as digit-reads
 
 abbrev Inv-loop : tie.InvT-loop
-Inv-loop line base start end v₀ i₀ v i = Unit {0}
+Inv-loop line base end i₀ v₀ i v = Unit {0}
 
 abbrev μ-loop : tie.MeasureT-loop
-μ-loop line base start end v₀ i₀ v i = end - i
+μ-loop line base end i₀ v₀ i v = end - i
 
 returns : tie.Need-returns Inv-loop μ-loop
 returns c = search needs
@@ -19,17 +20,11 @@ returns c = search needs
 loop-holds : tie.Need-loop-holds Inv-loop μ-loop
 loop-holds c = search needs
 
-returns-2 : tie.Need-returns-2 Inv-loop μ-loop
-returns-2 c = search needs
-
-element-copy-out-digit : tie.Need-element-copy-out-digit Inv-loop μ-loop
-element-copy-out-digit c = search needs
+byte-at-requires : tie.Need-byte-at-requires Inv-loop μ-loop
+byte-at-requires c κs = search needs
 
 digit-requires : tie.Need-digit-requires Inv-loop μ-loop
 digit-requires c κs = search needs
-
-returns-3 : tie.Need-returns-3 Inv-loop μ-loop
-returns-3 c = search needs
 
 append-requires : tie.Need-append-requires Inv-loop μ-loop
 append-requires c κs = search needs
@@ -43,8 +38,8 @@ loop-less c = search needs
 loop-again : tie.Need-loop-again Inv-loop μ-loop
 loop-again c = search needs
 
-returns-4 : tie.Need-returns-4 Inv-loop μ-loop
-returns-4 c = search needs
+returns-2 : tie.Need-returns-2 Inv-loop μ-loop
+returns-2 c = search needs
 
 pub number-spec : {M : Type 1} → statement M
 number-spec =
@@ -54,12 +49,10 @@ number-spec =
     μ-loop
     returns
     loop-holds
-    returns-2
-    element-copy-out-digit
+    byte-at-requires
     digit-requires
-    returns-3
     append-requires
     add-i
     loop-less
     loop-again
-    returns-4)
+    returns-2)

@@ -3,6 +3,9 @@ use borrow.Author.Needs.{needs}
 use lib.ListN.{length}
 use Rattle.notation.proofs.word.which.Statement.{statement}
 use Rattle.notation.proofs.word.which.Tie as tie
+use Rattle.notation.proofs.word.which.Reads as reads
+use Rattle.notation.proofs.word.which.Lts as lts
+use Rattle.notation.proofs.word.after.Reads as after-reads
 
 abbrev Inv-loop : tie.InvT-loop
 Inv-loop list s start end n₀ at₀ i₀ n at i = Unit {0}
@@ -22,8 +25,8 @@ add-i c = search needs
 returns : tie.Need-returns Inv-loop μ-loop
 returns c = search needs
 
-one-more-requires : tie.Need-one-more-requires Inv-loop μ-loop
-one-more-requires c κs = search needs
+add-n : tie.Need-add-n Inv-loop μ-loop
+add-n c = search needs
 
 loop-less : tie.Need-loop-less Inv-loop μ-loop
 loop-less c = search needs
@@ -31,14 +34,20 @@ loop-less c = search needs
 loop-again : tie.Need-loop-again Inv-loop μ-loop
 loop-again c = search needs
 
-after-requires : tie.Need-after-requires Inv-loop μ-loop
-after-requires c κs = search needs
-
 loop-less-2 : tie.Need-loop-less-2 Inv-loop μ-loop
 loop-less-2 c = search needs
 
 loop-again-2 : tie.Need-loop-again-2 Inv-loop μ-loop
 loop-again-2 c = search needs
+
+after-requires : tie.Need-after-requires Inv-loop μ-loop
+after-requires c κs = search needs
+
+loop-less-3 : tie.Need-loop-less-3 Inv-loop μ-loop
+loop-less-3 c = search needs
+
+loop-again-3 : tie.Need-loop-again-3 Inv-loop μ-loop
+loop-again-3 c = search needs
 
 returns-2 : tie.Need-returns-2 Inv-loop μ-loop
 returns-2 c = search needs
@@ -53,10 +62,12 @@ which-spec =
     shared-slice-read-c
     add-i
     returns
-    one-more-requires
+    add-n
     loop-less
     loop-again
-    after-requires
     loop-less-2
     loop-again-2
+    after-requires
+    loop-less-3
+    loop-again-3
     returns-2)
