@@ -6,6 +6,8 @@ use libc::STDOUT_FILENO;
 use notation::check;
 use notation::line::Parsed;
 use notation::word;
+use reader::lines;
+use reader::lines::Lines;
 use rival::counts;
 use rival::counts::Tally;
 use rival::modes;
@@ -17,9 +19,7 @@ use rival::stretch;
 use rival::stretch::Answers;
 use rival::stretch::Memory;
 use rival::stretch::Tape;
-use words::lines;
-use words::lines::Lines;
-use words::text;
+use sentences::text;
 
 // Of all files: charts, those that agreed in every record, their records, bad lines, and files that could not be read or have no chart.
 pub struct Totals {

@@ -1,21 +1,10 @@
 // The arguments, one after another: words start a command, and files belong to the last one.
-use crate::bench;
+use crate::run;
 use libc::STDIN_FILENO;
-use notation::word;
-use words::filters;
-use words::output;
-
-// What is done with a command's files, beside what the bench does.
-const ASSEMBLE: u8 = 4;
-
-const LIST: u8 = 5;
-
-const EXPLAIN: u8 = 6;
-
-const CARD: u8 = 7;
-
-// What an argument is where it is no command's word.
-const FILE: u8 = 8;
+use reader::comments;
+use reader::filters;
+use reader::output;
+use reader::usage;
 
 // How far the arguments are taken.
 pub struct Course {
@@ -32,7 +21,7 @@ impl Course {
     pub fn start(checks: bool) -> Course {
         Course {
             checks: checks,
-            mode: bench::RUN,
+            mode: usage::RUN,
             has_file: false,
             status: report::WELL,
         }
@@ -44,8 +33,8 @@ impl Course {
     }
 
     pub fn take_word(self, word: &[u8]) -> Course {
-        let mode = command(word);
-        if mode == FILE {
+        let mode = usage::command(word);
+        if mode == usage::FILE {
             return self.take_file(word);
         }
         let mut next = self.end_command();
@@ -58,7 +47,7 @@ impl Course {
         let had_file = self.has_file;
         self.has_file = true;
         if self.checks {
-            return self.with(check_file(self.mode, had_file, name));
+            return self.with(usage::check_file(self.mode, had_file, name));
         }
         self.with(open_file(self.mode, name))
     }
@@ -69,9 +58,9 @@ impl Course {
             return self;
         }
         if self.checks {
-            return self.with(check_no_file(self.mode));
+            return self.with(usage::check_no_file(self.mode));
         }
-        if takes_one(self.mode) {
+        if usage::takes_one(self.mode) {
             return self.with(run_without_file(self.mode));
         }
         self
@@ -86,134 +75,35 @@ impl Course {
     }
 }
 
-// Commands that take one file, or none.
-fn takes_one(mode: u8) -> bool {
-    bench::PIECES < mode
-}
-
-// The words are in the order of what they stand for, but for RUN, which has none.
-fn command(word: &[u8]) -> u8 {
-    word::which(
-        b"\n listing pieces try assemble list explain card ",
-        word,
-        0,
-        word.len(),
-    )
-}
-
 fn run_without_file(mode: u8) -> u8 {
-    if mode != CARD {
-        return run_on(mode, STDIN_FILENO, b"lesson: standard input");
-    }
-    if ports::print_index() {
-        return report::WELL;
-    }
-    output::fail()
-}
-
-fn run_on(mode: u8, fd: i32, path: &[u8]) -> u8 {
     match mode {
-        bench::TRY => bench::run_typed(fd, path),
-        ASSEMBLE => filters::assemble(fd, path),
-        LIST => filters::tell(filters::LIST, fd, path),
-        EXPLAIN => filters::tell(filters::EXPLAIN, fd, path),
-        _ => bench::run_file(mode, fd, path),
+        usage::CARD => end_card(comments::print_index()),
+        _ => run_on(mode, STDIN_FILENO, b"lesson: standard input"),
     }
 }
 
-fn print_card(name: &[u8]) -> u8 {
-    match ports::print_card(name) {
+// How the program would end after a card.
+fn end_card(found: u8) -> u8 {
+    match found {
         0 => report::WELL,
-        1 => {
-            output::tell(name, 0x1e, 0);
-            report::FAILED
-        }
+        1 => report::FAILED,
         _ => output::fail(),
     }
 }
 
-// Wrong usage, by the sentence that follows a name.
-fn tell_wrong(name: &[u8], sentence: u8) -> u8 {
-    output::tell(name, sentence, 0);
-    report::USAGE
-}
-
-fn check_no_file(mode: u8) -> u8 {
+fn run_on(mode: u8, fd: i32, path: &[u8]) -> u8 {
     match mode {
-        bench::LISTING => tell_wrong(b"lesson", 0x1d),
-        bench::PIECES => tell_wrong(b"lesson", 0x1d),
-        _ => report::WELL,
+        usage::TRY => run::run_typed(fd, path),
+        usage::ASSEMBLE => filters::assemble(fd, path),
+        usage::LIST => filters::tell(filters::LIST, fd, path),
+        usage::EXPLAIN => filters::tell(filters::EXPLAIN, fd, path),
+        _ => run::run_file(mode, fd, path),
     }
-}
-
-// Whether an argument can be a file of the command under way.
-fn check_file(mode: u8, had_file: bool, name: &[u8]) -> u8 {
-    if name.len() == 0 {
-        return tell_wrong(b"lesson", 0x1c);
-    }
-    if name[0] == b'-' {
-        return check_option(name);
-    }
-    if mode != CARD {
-        if is_mistyped(name) {
-            return tell_wrong(name, 0x19);
-        }
-    }
-    if had_file {
-        if takes_one(mode) {
-            return tell_wrong(name, 0x1b);
-        }
-        return report::WELL;
-    }
-    report::WELL
-}
-
-// Whoever asks for help gets the usage alone.
-fn check_option(name: &[u8]) -> u8 {
-    if word::which(b"--help -h ", name, 0, name.len()) < 2 {
-        return report::USAGE;
-    }
-    tell_wrong(name, 0x1a)
-}
-
-// Letters alone, and no file that is there.
-fn is_mistyped(name: &[u8]) -> bool {
-    let mut path = io::buffer();
-    let mut i = 0;
-    while i < name.len() {
-        if 4094 < i {
-            return false;
-        }
-        let x = name[i];
-        if !is_letter(x) {
-            return false;
-        }
-        path[i] = x;
-        i += 1;
-    }
-    path[4095] = 0;
-    libc::access(&path, libc::F_OK) < 0
-}
-
-// ASCII has its letters in the rows of 32 from 40 and from 60 on, in the places 1 to 26.
-fn is_letter(x: u8) -> bool {
-    match x / 32 {
-        2 => is_in_row(x % 32),
-        3 => is_in_row(x % 32),
-        _ => false,
-    }
-}
-
-fn is_in_row(place: u8) -> bool {
-    if place == 0 {
-        return false;
-    }
-    place < 27
 }
 
 fn open_file(mode: u8, path: &[u8]) -> u8 {
-    if mode == CARD {
-        return print_card(path);
+    if mode == usage::CARD {
+        return end_card(comments::print_card(path));
     }
     let fd = os::open_read(path);
     if fd < 0 {

@@ -1,12 +1,11 @@
 // lesson FILE..: runs each lesson from reset and prints a row for each record; lesson listing FILE.. prints its comments too; lesson try takes lines as they are typed.
 // lesson assemble | list | explain [FILE]: filters, on a file or on standard input; lesson pieces FILE.. shows what they make of a lesson.
 // lesson card [PORT]: what each bit of a port means.
-mod bench;
 mod course;
+mod run;
 
 use course::Course;
-use words::output;
-use words::sentences;
+use reader::output;
 
 // The arguments are walked twice: what is used wrongly is found before anything is run.
 fn main() {

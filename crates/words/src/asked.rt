@@ -1,11 +1,12 @@
 // Which sentence says what a record asks for.
+use sentences::which;
 
 // By the facts of a record and of the board before it.
 pub fn sentence(f: [u8; 16]) -> u8 {
     match f[0] {
         0 => 0x13,
-        1 => write(master_port(f[1]), f[2], f[12]),
-        2 => read(master_port(f[1])),
+        1 => write(which::master_port(f[1]), f[2], f[12]),
+        2 => read(which::master_port(f[1])),
         3 => 0x15,
         4 => 0x14,
         5 => advance(f[4], f[5]),
@@ -16,36 +17,32 @@ pub fn sentence(f: [u8; 16]) -> u8 {
     }
 }
 
-// The slave's ports, 30 and 31, stand for the master's, which take the same words; any other stands for itself.
-pub fn master_port(port: u8) -> u8 {
-    port % 0x30
-}
-
-// Which byte of a count is written or read.
-pub fn place(op: u8, format: u8, half: bool, second: bool) -> u8 {
-    if format != 3 {
-        return format;
+// Which byte of a count is written or read; 0 where that goes unsaid.
+pub fn place(hidden: bool, op: u8, format: u8, half: bool, second: bool) -> u8 {
+    let high = match op {
+        2 => second,
+        _ => half,
+    };
+    match hidden {
+        true => 0,
+        false => match format {
+            3 => match high {
+                true => 2,
+                false => 1,
+            },
+            _ => format,
+        },
     }
-    if op == 2 {
-        if second {
-            return 2;
-        }
-        return 1;
-    }
-    if half {
-        return 2;
-    }
-    1
 }
 
 fn advance(low: u8, high: u8) -> u8 {
-    if low == 1 {
-        if high == 0 {
-            return 0x11;
-        }
-        return 0x10;
+    match high {
+        0 => match low {
+            1 => 0x11,
+            _ => 0x10,
+        },
+        _ => 0x10,
     }
-    0x10
 }
 
 // By port: an interrupt chip, whose next word depends on what it awaits, the timer, the DMA chip.

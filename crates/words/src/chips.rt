@@ -1,23 +1,31 @@
 // The chips of a board, as far as a row or a picture of them needs it, and the facts of the chips before a record that choose its sentences.
-use crate::answered;
 use crate::asked;
-use crate::sentences;
-use crate::text::Text;
+use crate::refused;
 use dma::Channel;
 use dma::Dma;
 use icu::Icu;
 use notation::listing;
+use sentences::text::Text;
+use sentences::which;
 use timer::Counter;
 use timer::Timer;
 
 pub struct Chips {
-    // the master, and the levels of INTP1 to INTP7
+    // the master, and its eight lines
     pub icu: Icu,
-    pub intp: u8,
+    pub lines: u8,
+    // an acknowledge would go on to the slave
+    pub passes: bool,
     pub slave: Icu,
     pub slaveintp: u8,
     pub timer: Timer,
     pub dma: Dma,
+}
+
+// A bit for each channel: those that are masked, and those whose mode is of words.
+pub struct Marked {
+    pub masked: u8,
+    pub wide: u8,
 }
 
 impl Chips {
@@ -29,17 +37,23 @@ impl Chips {
         self.icu
     }
 
-    // Its eight lines: of the master INTP1 to INTP7 with the slave's INT on line 7, and OUT0 as line 0.
-    pub fn lines(self, slave: bool) -> u8 {
+    // Its eight lines.
+    pub fn lines_of(self, slave: bool) -> u8 {
         if slave {
             return self.slaveintp;
         }
-        let c = self.counter(0);
-        let intp = cascade::join(self.intp, self.slave, self.slaveintp);
-        if c.out {
-            return bits::with(intp, 0);
+        self.lines
+    }
+
+    // OUT0 to OUT2, and INT, as an answer has them.
+    pub fn levels(self) -> u8 {
+        let i = self.icu;
+        let t = self.timer;
+        let outs = t.outs();
+        match i.int(self.lines) {
+            true => outs | 8,
+            false => outs,
         }
-        intp
     }
 
     pub fn counter(self, k: u8) -> Counter {
@@ -68,19 +82,18 @@ impl Chips {
         span.address
     }
 
-    // The channels that are masked, a bit for each.
-    pub fn masks(self) -> u8 {
+    pub fn marked(self) -> Marked {
         let c0 = self.channel(0);
         let c1 = self.channel(1);
         let c2 = self.channel(2);
         let c3 = self.channel(3);
-        c0.masked as u8 | (c1.masked as u8) << 1 | (c2.masked as u8) << 2 | (c3.masked as u8) << 3
-    }
-
-    // Which way the units of a channel go, and whether they are words.
-    fn way(self, channel: u8) -> u8 {
-        let c = self.channel(channel);
-        answered::way(c.mode)
+        Marked {
+            masked: c0.masked as u8
+                | (c1.masked as u8) << 1
+                | (c2.masked as u8) << 2
+                | (c3.masked as u8) << 3,
+            wide: c0.mode % 2 | c1.mode % 2 << 1 | c2.mode % 2 << 2 | c3.mode % 2 << 3,
+        }
     }
 }
 
@@ -96,56 +109,66 @@ pub struct Manner {
     pub other: bool,
     // the length of the memory
     pub lent: u32,
+    // the record's port: bit 0 can be written, bit 1 can be read
+    pub open: u8,
 }
 
 // What a record asks for: what a byte means depends on the chips. A record that is refused with 2 asks for nothing, and stands in the notation. Which byte of a count is read
 // goes unsaid where the row is plain.
 pub fn asked(chips: Chips, r: [u8; 8], status: u8, plain: bool) -> Text {
-    let mut f = facts_of(chips, r);
-    if plain {
-        if r[0] == 2 {
-            f[10] = 0;
-            f[11] = 0;
-        }
-    }
-    if status == 2 {
-        return sentences::asked(listing::sentence(f), f);
-    }
-    sentences::asked(asked::sentence(f), f)
-}
-
-fn facts_of(chips: Chips, r: [u8; 8]) -> [u8; 16] {
+    let op = r[0];
+    let port = r[1];
     let d = chips.dma;
-    let c = chips.counter(r[1] % 4);
-    let slave = is_slave(r[1]);
+    let c = chips.counter(port % 4);
+    let slave = is_slave(port);
     let i = chips.chip(slave);
-    let mut f = sentences::facts(r, d.selected, d.base as u8, 0, c.latched as u8);
-    f[10] = asked::place(r[0], c.format, c.half, c.second);
-    f[12] = i.stage;
-    f[13] = i.showsisr as u8;
-    f[14] = slave as u8;
-    f
+    let hidden = plain & (op == 2);
+    let f = [
+        op,
+        port,
+        r[2],
+        r[3],
+        r[4],
+        r[5],
+        r[6],
+        r[7],
+        d.selected,
+        d.base as u8,
+        asked::place(hidden, op, c.format, c.half, c.second),
+        (c.latched & !hidden) as u8,
+        i.stage,
+        i.showsisr as u8,
+        slave as u8,
+        0,
+    ];
+    let sentence = match status {
+        2 => listing::sentence(f),
+        _ => asked::sentence(f),
+    };
+    sentences::asked(sentence, f)
 }
 
 // What was read, moved or answered, and for a refusal a sentence that helps. `before` are the chips before the record, `after` those after it.
 pub fn answered(before: Chips, after: Chips, r: [u8; 8], a: [u8; 16], m: Manner) -> Text {
-    if a[0] != 0 {
-        return refusal(before, r, a[0]);
+    let status = a[0];
+    if status != 0 {
+        return refusal(before, r, status, m.open);
     }
     match a[1] {
-        2 => read(before, after, r[1], a, m),
+        2 => read(before, after, r[1], a[2], m),
         4 => acknowledged(before, after, a, m.plain),
-        6 => cycled(before, after, r, a, m),
+        6 => cycled(before, after, r[3], a, m),
         _ => Text::new(),
     }
 }
 
 // What is read of a port: its byte in words, with the register that the byte is of.
-fn read(before: Chips, after: Chips, port: u8, a: [u8; 16], m: Manner) -> Text {
+fn read(before: Chips, after: Chips, port: u8, byte: u8, m: Manner) -> Text {
     let d = before.dma;
-    let n = notation::line::little(before.register(port));
-    let byte = a[2];
-    let place = place_of(before.counter(port % 4), after.counter(port % 4), m.plain);
+    let n = before.register(port);
+    let was = before.counter(port % 4);
+    let now = after.counter(port % 4);
+    let place = (now.second & !m.plain) as u8 | ((was.latched & !m.plain) as u8) << 1;
     let f = [
         0,
         0,
@@ -155,27 +178,19 @@ fn read(before: Chips, after: Chips, port: u8, a: [u8; 16], m: Manner) -> Text {
         0,
         0,
         0,
-        n[0],
-        n[1],
-        n[2],
+        (n % 256) as u8,
+        (n / 256 % 256) as u8,
+        (n / 65536 % 256) as u8,
         0,
         0,
         d.base as u8,
         read_mark(port, place, d.selected, byte),
         m.other as u8,
     ];
-    sentences::answered(answered::done(2, 0, port), f, 0)
+    sentences::answered(which::done(2, 0, port), f, 0)
 }
 
-// Of a counter's byte: bit 0 the high byte is next, bit 1 it was latched.
-fn place_of(was: Counter, now: Counter, plain: bool) -> u8 {
-    if plain {
-        return 0;
-    }
-    now.second as u8 | (was.latched as u8) << 1
-}
-
-// What there is to say beside the byte: of a counter which byte is next and whether it is latched, of the status whether an end bit was set, else the channel.
+// What there is to say beside the byte: of a counter bit 0 that the high byte is next, and bit 1 that it was latched; of the status whether an end bit was set, else the channel.
 fn read_mark(port: u8, counter: u8, channel: u8, byte: u8) -> u8 {
     match port / 16 {
         1 => counter,
@@ -188,46 +203,95 @@ fn read_mark(port: u8, counter: u8, channel: u8, byte: u8) -> u8 {
 
 // The bytes of an acknowledge, and what there is to say of them: that the slave gave them, of either chip why its INT is low, and the levels in service.
 fn acknowledged(before: Chips, after: Chips, a: [u8; 16], plain: bool) -> Text {
-    let passed = cascade::is_passed_on(before.icu, before.lines(false), before.slave);
+    let passed = before.passes;
     let giver = before.chip(passed);
-    let lines = before.lines(passed);
+    let lines = before.lines_of(passed);
+    let asking = giver.asked(lines);
+    let int = giver.int(lines);
+    let highest = icu::highest(asking, giver.lowest);
     let mut f = a;
     f[14] = 1;
-    f[15] = level_of(giver, lines);
-    let bytes = sentences::answered(answered::done(4, a[4], 0), f, 0);
+    f[15] = match int {
+        true => highest,
+        false => 7,
+    };
+    let bytes = sentences::answered(which::done(4, a[4], 0), f, 0);
     if plain {
         return bytes;
     }
-    bytes
-        .and(answered::remark(giver, lines, passed as u8))
-        .and(in_service(after, passed as u8))
+    let service = icu::highest(giver.isr, giver.lowest);
+    let said = match int {
+        true => remark(0x0b, highest, 0, passed),
+        false => remark(
+            0x0a,
+            which::cause_of_low(giver.irr(lines), asking),
+            service,
+            passed,
+        ),
+    };
+    bytes.and(said).and(in_service(after, passed))
 }
 
-// The level that a chip gives.
-fn level_of(giver: Icu, lines: u8) -> u8 {
-    if giver.int(lines) {
-        return icu::highest(giver.asked(lines), giver.lowest);
-    }
-    7
+// What follows the bytes of an acknowledge: the level that the slave gives, or why the INT of the chip that gave them is low.
+fn remark(sentence: u8, level: u8, service: u8, slave: bool) -> Text {
+    sentences::answered(
+        sentence,
+        [
+            0,
+            0,
+            0,
+            0,
+            0,
+            0,
+            0,
+            0,
+            0,
+            0,
+            0,
+            0,
+            level,
+            service,
+            slave as u8,
+            0,
+        ],
+        0,
+    )
 }
 
-fn in_service(after: Chips, passed: u8) -> Text {
+fn in_service(after: Chips, passed: bool) -> Text {
     let i = after.icu;
     let s = after.slave;
     sentences::happened(
         0x28,
-        [0, passed, s.isr, 0, i.isr, 0, 0, 0, 0, 0, 0, 0, 0, 0, 0, 0],
+        [
+            0,
+            passed as u8,
+            s.isr,
+            0,
+            i.isr,
+            0,
+            0,
+            0,
+            0,
+            0,
+            0,
+            0,
+            0,
+            0,
+            0,
+            0,
+        ],
         0,
     )
 }
 
 // What a bus cycle did, where, and what it left to do; or why it did nothing.
-fn cycled(before: Chips, after: Chips, r: [u8; 8], a: [u8; 16], m: Manner) -> Text {
+fn cycled(before: Chips, after: Chips, upper: u8, a: [u8; 16], m: Manner) -> Text {
     let kind = a[4];
     match kind {
         0 => idle(before),
-        2 => moved_words(before, after, r[3], a, m),
-        _ => sentences::answered(answered::done(6, kind, 0), a, 0),
+        2 => moved_words(before, after, upper, a, m),
+        _ => sentences::answered(which::done(6, kind, 0), a, 0),
     }
 }
 
@@ -257,28 +321,35 @@ fn idle(before: Chips) -> Text {
 
 // 1 for a channel that asks, 2 for several, 3 for none; 0 where the chip is disabled.
 fn asking(requests: u8, disabled: bool) -> u8 {
-    if disabled {
-        return 0;
-    }
-    match requests {
-        0 => 3,
-        _ => answered::how_many(requests),
+    match disabled {
+        true => 0,
+        false => match requests {
+            0 => 3,
+            _ => which::how_many(requests),
+        },
     }
 }
 
 fn moved_words(before: Chips, after: Chips, upper: u8, a: [u8; 16], m: Manner) -> Text {
     let k = a[5];
-    let way = before.way(k);
     let c = before.channel(k);
+    let way = which::way(c.mode);
     let next = after.channel(k);
     let left = next.current;
-    let mut f = answered::facts(a, way);
-    f[3] = upper;
-    f[6] = rest(a[6], c.mode, m.plain);
-    f[15] = half_lost(f[15], lost(a, way, m.lent));
+    let f = which::unit(
+        a,
+        way,
+        upper,
+        rest(a[6], c.mode, m.plain),
+        half_lost(way, lost(sentences::four(a, 8), way, m.lent)),
+    );
     let said = sentences::answered(0x09, f, left.count as u64 + 1);
-    if is_unused(upper, way) {
-        return said.and(sentences::answered(0x0c, f, 0));
+    // the device's upper byte was not used: it had one, and the unit is a byte to memory
+    if way == which::TO_MEMORY {
+        return match upper {
+            0 => said,
+            _ => said.and(sentences::answered(0x0c, f, 0)),
+        };
     }
     said
 }
@@ -293,82 +364,109 @@ fn half_lost(way: u8, lost: u8) -> u8 {
 
 // What is said of the units still to come: that the channel starts anew, how many are left, or nothing.
 fn rest(last: u8, mode: u8, plain: bool) -> u8 {
-    if plain {
-        return 0;
+    match plain {
+        true => 0,
+        false => match last {
+            1 => mode / 16 % 2,
+            _ => 2,
+        },
     }
-    if last == 1 {
-        return mode / 16 % 2;
-    }
-    2
 }
 
-// Whether the device's upper byte was not used: it had one, and the unit is a byte to memory.
-fn is_unused(upper: u8, way: u8) -> bool {
-    if upper == 0 {
-        return false;
+// How many bytes of a unit at an address are past so many bytes of memory.
+fn lost(at: u32, way: u8, lent: u32) -> u8 {
+    let lower = (lent <= at / 2 * 2) as u8;
+    let upper = (lent <= (at | 1)) as u8;
+    match which::size(way) {
+        1 => (lent <= at) as u8,
+        _ => match lower {
+            1 => 2,
+            _ => upper,
+        },
     }
-    way == answered::TO_MEMORY
 }
 
-// How many bytes of a unit that goes a way are past so many bytes of memory.
-fn lost(a: [u8; 16], way: u8, lent: u32) -> u8 {
-    let at = sentences::four(a, 8);
-    if answered::size(way) == 1 {
-        return (lent <= at) as u8;
-    }
-    if lent <= at / 2 * 2 {
-        return 2;
-    }
-    (lent <= (at | 1)) as u8
-}
-
-// How many bytes the answer's unit moved one way, to memory or from it, and how many of them past its end.
-pub struct Carried {
-    pub bytes: u8,
+// A unit that an answer tells of: its address, the way that it went, how many bytes of it went to memory, and how many, whichever way, are past the end of it; 0 where there is
+// none.
+pub struct Unit {
+    pub address: u32,
+    pub way: u8,
+    pub written: u8,
     pub lost: u8,
 }
 
-pub fn moved(chips: Chips, a: [u8; 16], to: u8, lent: u32) -> Carried {
-    let way = chips.way(a[5]);
-    if answered::is_unit(a) && way % 4 == to {
-        return Carried {
-            bytes: answered::size(way),
-            lost: lost(a, way, lent),
+pub fn unit_of(chips: Chips, a: [u8; 16], lent: u32) -> Unit {
+    let c = chips.channel(a[5]);
+    let way = which::way(c.mode);
+    let address = sentences::four(a, 8);
+    // status 0, operation 6, kind 2
+    if a[0] | (a[1] ^ 6) | (a[4] ^ 2) != 0 {
+        return Unit {
+            address: 0,
+            way: 0,
+            written: 0,
+            lost: 0,
         };
     }
-    Carried { bytes: 0, lost: 0 }
+    let written = match way % 4 {
+        which::TO_MEMORY => which::size(way),
+        _ => 0,
+    };
+    Unit {
+        address: address,
+        way: way % 4,
+        written: written,
+        lost: lost(address, way, lent),
+    }
 }
 
 // Why a record was refused, worked out from the record and the chips before it.
-fn refusal(chips: Chips, r: [u8; 8], status: u8) -> Text {
+fn refusal(chips: Chips, r: [u8; 8], status: u8, open: u8) -> Text {
+    let op = r[0];
+    let port = r[1];
+    let x = r[2];
     let d = chips.dma;
     let m = chips.icu;
+    let master = set_up(m);
+    let other = set_up(chips.slave);
     // an acknowledge that a ready master refuses is the slave's fault, or that of both
-    let needed = r[0] == 4 && m.stage == Icu::READY;
-    let slave = needed || is_slave(r[1]);
+    let needed = (op == 4) & (m.stage == Icu::READY);
+    let slave = needed | is_slave(port);
     let i = chips.chip(slave);
-    let c = chips.counter(r[1] % 4);
-    let two = c.format == Counter::BOTH;
-    let mut f = sentences::facts(r, status, 0, two as u8, i.stage);
-    f[9] = d.channel;
-    if !d.serving {
-        f[9] = word_channels(chips);
-    }
-    f[12] = slave as u8;
-    f[13] = set_up(m);
-    f[14] = set_up(chips.slave);
-    f[15] = needed as u8;
-    sentences::refused(answered::reason(f), f)
-}
-
-// A bit for each channel whose mode is of words.
-fn word_channels(chips: Chips) -> u8 {
-    let d = chips.dma;
-    let c0 = d.channels[0];
-    let c1 = d.channels[1];
-    let c2 = d.channels[2];
-    let c3 = d.channels[3];
-    c0.mode % 2 | c1.mode % 2 << 1 | c2.mode % 2 << 2 | c3.mode % 2 << 3
+    let c = chips.counter(port % 4);
+    let marked = chips.marked();
+    let serving = d.serving;
+    let channel = match serving {
+        true => d.channel,
+        false => marked.wide,
+    };
+    let f = [
+        op,
+        port,
+        x,
+        r[3],
+        r[4],
+        r[5],
+        r[6],
+        r[7],
+        status,
+        channel,
+        (c.format == Counter::BOTH) as u8,
+        i.stage,
+        slave as u8,
+        master,
+        other,
+        needed as u8,
+    ];
+    let zero = listing::is_zero_later(f);
+    let sentence = match status {
+        1 => 0x10,
+        2 => refused::malformed(op, port, x, zero, open, r[6] | r[7]),
+        3 => refused::early(op, which::master_port(port), i.stage, master ^ other),
+        4 => refused::unbuilt(which::master_port(port), x),
+        _ => 0x60,
+    };
+    sentences::refused(sentence, f)
 }
 
 // How an interrupt chip is set up: bit 0 vector mode, bit 1 single.

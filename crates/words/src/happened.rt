@@ -1,12 +1,10 @@
 // What came of a record, by the chips before it and after it.
-use crate::answered;
-use crate::asked;
 use crate::chips;
 use crate::chips::Chips;
 use crate::chips::Manner;
-use crate::sentences;
-use crate::text::Text;
 use icu::Icu;
+use sentences::text::Text;
+use sentences::which;
 use timer::Counter;
 
 // What an answer says, and what came of its record besides; `done` where there is nothing to be said.
@@ -36,7 +34,7 @@ pub fn words(before: Chips, after: Chips, r: [u8; 8], a: [u8; 16], m: Manner) ->
 // A text, or where there is none what was done: of an advance the rises.
 fn or_done(said: Text, r: [u8; 8], a: [u8; 16]) -> Text {
     if said.n == 0 {
-        return sentences::answered(answered::done(r[0], a[4], 0), a, 0);
+        return sentences::answered(which::done(r[0], a[4], 0), a, 0);
     }
     said
 }
@@ -60,7 +58,7 @@ fn first_words(before: Chips, after: Chips, r: [u8; 8]) -> Text {
 }
 
 fn written(before: Chips, after: Chips, port: u8, x: u8) -> Text {
-    let place = asked::master_port(port);
+    let place = which::master_port(port);
     match place / 16 {
         0 => interrupt_words(before, after, port, x),
         1 => counter_words(before, after, place, x),
@@ -77,7 +75,7 @@ fn interrupt_words(before: Chips, after: Chips, port: u8, x: u8) -> Text {
         x,
         slave as u8,
         finished,
-        answered::how_many(finished),
+        which::how_many(finished),
         now.isr,
         now.stage,
         (now.lowest % 8 + 1) % 8,
@@ -267,8 +265,6 @@ fn dma_words(after: Chips, port: u8, x: u8) -> Text {
 fn units_words(after: Chips, whole: u8) -> Text {
     let count = after.register(0x22);
     let units = count % 65536 + 1;
-    let c = notation::line::little(count);
-    let n = notation::line::little(units);
     sentences::happened(
         0x40,
         [
@@ -280,11 +276,11 @@ fn units_words(after: Chips, whole: u8) -> Text {
             0,
             0,
             0,
-            c[0],
-            c[1],
-            n[0],
-            n[1],
-            n[2],
+            (count % 256) as u8,
+            (count / 256 % 256) as u8,
+            (units % 256) as u8,
+            (units / 256 % 256) as u8,
+            (units / 65536 % 256) as u8,
             0,
             0,
             0,
@@ -294,21 +290,28 @@ fn units_words(after: Chips, whole: u8) -> Text {
 }
 
 fn address_words(after: Chips) -> Text {
-    let a = notation::line::little(after.register(0x24));
-    four_facts(0x41, 0, 0, a[0], a[1], a[2])
+    let a = after.register(0x24);
+    four_facts(
+        0x41,
+        0,
+        0,
+        (a % 256) as u8,
+        (a / 256 % 256) as u8,
+        (a / 65536 % 256) as u8,
+    )
 }
 
 // The channels that ask: those that may be served, and those that are masked.
 fn requested(after: Chips) -> Text {
     let d = after.dma;
-    let masked = after.masks();
-    let free = d.requests & !masked;
-    let held = d.requests & masked;
+    let marked = after.marked();
+    let free = d.requests & !marked.masked;
+    let held = d.requests & marked.masked;
     let f = [
         free,
-        answered::how_many(free),
+        which::how_many(free),
         held,
-        answered::how_many(held),
+        which::how_many(held),
         disabled(d.requests, d.disabled),
         0,
         0,
@@ -338,40 +341,43 @@ fn three(a: bool, b: bool, c: bool) -> u8 {
     a as u8 | (b as u8) << 1 | (c as u8) << 2
 }
 
-fn gates_of(chips: Chips) -> u8 {
-    let c0 = chips.counter(0);
-    let c1 = chips.counter(1);
-    let c2 = chips.counter(2);
-    three(c0.gate, c1.gate, c2.gate)
+// A bit for each counter: its GATE, whether it will load, and whether a low GATE keeps it from counting: once it has a count, in any mode but 1 and 5.
+struct Gates {
+    high: u8,
+    loads: u8,
+    stands: u8,
 }
 
-fn triggers_of(chips: Chips) -> u8 {
+fn gates_of(chips: Chips) -> Gates {
     let c0 = chips.counter(0);
     let c1 = chips.counter(1);
     let c2 = chips.counter(2);
-    three(c0.trigger, c1.trigger, c2.trigger)
+    Gates {
+        high: three(c0.gate, c1.gate, c2.gate),
+        loads: three(c0.trigger, c1.trigger, c2.trigger),
+        stands: three(
+            stands_still(c0.mode, c0.full, c0.half),
+            stands_still(c1.mode, c1.full, c1.half),
+            stands_still(c2.mode, c2.full, c2.half),
+        ),
+    }
 }
 
 // GATE of some counters rose or fell.
 fn gated(before: Chips, after: Chips) -> Text {
     let was = gates_of(before);
     let now = gates_of(after);
-    let loads = triggers_of(after);
-    let held = three(
-        stands_still(after, 0),
-        stands_still(after, 1),
-        stands_still(after, 2),
-    );
-    let starts = now & !was & loads;
-    let stops = was & !now & held;
-    let goes = now & !was & !loads & held;
+    let rose = now.high & !was.high;
+    let starts = rose & now.loads;
+    let stops = was.high & !now.high & now.stands;
+    let goes = rose & !now.loads & now.stands;
     let f = [
         starts,
-        answered::how_many(starts),
+        which::how_many(starts),
         stops,
-        answered::how_many(stops),
+        which::how_many(stops),
         goes,
-        answered::how_many(goes),
+        which::how_many(goes),
         0,
         0,
         0,
@@ -386,15 +392,12 @@ fn gated(before: Chips, after: Chips) -> Text {
     sentences::happened(0x50, f, 0)
 }
 
-// Whether a low GATE keeps a counter from counting: once it has a count, in any mode but 1 and 5.
-fn stands_still(chips: Chips, k: u8) -> bool {
-    let c = chips.counter(k);
-    let mode = c.mode;
+fn stands_still(mode: u8, full: bool, half: bool) -> bool {
     match mode {
         1 => false,
         5 => false,
-        0 => c.full & !c.half,
-        _ => c.full,
+        0 => full & !half,
+        _ => full,
     }
 }
 
@@ -419,14 +422,31 @@ fn advanced(before: Chips, after: Chips, pulses: u32) -> Text {
 
 fn value_of(chips: Chips, k: u8) -> Text {
     let c = chips.counter(k);
-    let mut f = [0u8; 16];
     if 5 < c.mode {
         return Text::new();
     }
-    f[0] = low(c.value);
-    f[1] = high(c.value);
-    f[12] = k;
-    sentences::happened(0x61, f, 0)
+    sentences::happened(
+        0x61,
+        [
+            low(c.value),
+            high(c.value),
+            0,
+            0,
+            0,
+            0,
+            0,
+            0,
+            0,
+            0,
+            0,
+            0,
+            k,
+            0,
+            0,
+            0,
+        ],
+        0,
+    )
 }
 
 // The first three pulses of these that made an OUT rise, and how many others did.
@@ -434,30 +454,30 @@ fn rises_of(chips: Chips, k: u8, pulses: u32) -> Text {
     let c = chips.counter(k);
     let ran = c.run(pulses);
     let all = ran.rises;
-    let one = notation::line::little(pulse_of_rise(chips, k, pulses, 1));
-    let two = notation::line::little(pulse_of_rise(chips, k, pulses, 2));
-    let three = notation::line::little(pulse_of_rise(chips, k, pulses, 3));
+    if all == 0 {
+        return Text::new();
+    }
+    let one = pulse_of_rise(c, pulses, 1);
+    let two = pulse_of_rise(c, pulses, 2);
+    let three = pulse_of_rise(c, pulses, 3);
     let f = [
-        one[0],
-        one[1],
-        one[2],
+        (one % 256) as u8,
+        (one / 256 % 256) as u8,
         0,
-        two[0],
-        two[1],
-        two[2],
         0,
-        three[0],
-        three[1],
-        three[2],
+        (two % 256) as u8,
+        (two / 256 % 256) as u8,
+        0,
+        0,
+        (three % 256) as u8,
+        (three / 256 % 256) as u8,
+        0,
         0,
         k,
         named(all),
         (3 < all) as u8,
         0,
     ];
-    if all == 0 {
-        return Text::new();
-    }
     sentences::happened(0x60, f, more_than_three(all))
 }
 
@@ -478,8 +498,7 @@ fn more_than_three(rises: u32) -> u64 {
 }
 
 // The least number of pulses in which OUT rises so often, found by halving; more than all of them where it does not.
-fn pulse_of_rise(chips: Chips, k: u8, pulses: u32, rises: u32) -> u32 {
-    let c = chips.counter(k);
+fn pulse_of_rise(c: Counter, pulses: u32, rises: u32) -> u32 {
     let mut low: u32 = 0;
     let mut high = pulses % 65536 + 1;
     let mut turns: usize = 0;
@@ -504,7 +523,7 @@ struct Seen {
 
 fn look_at(chips: Chips, slave: bool) -> Seen {
     let i = chips.chip(slave);
-    let lines = chips.lines(slave);
+    let lines = chips.lines_of(slave);
     Seen {
         irr: i.irr(lines),
         int: i.int(lines),
@@ -573,21 +592,15 @@ fn level_facts(before: Chips, after: Chips, rises: u8, falls: u8, told: u8) -> [
     let slave_gone = slave_was.irr & !slave_now.irr & told;
     [
         anew,
-        answered::how_many(anew),
+        which::how_many(anew),
         gone,
-        answered::how_many(gone),
-        change(
-            was.int,
-            now.int,
-            anew,
-            icu.stage,
-            icu.asked(after.lines(false)),
-        ),
+        which::how_many(gone),
+        change(was.int, now.int, anew, icu.stage, icu.asked(after.lines)),
         icu::highest(icu.isr, icu.lowest),
         slave_anew,
-        answered::how_many(slave_anew),
+        which::how_many(slave_anew),
         slave_gone,
-        answered::how_many(slave_gone),
+        which::how_many(slave_gone),
         change(
             slave_was.int,
             slave_now.int,
@@ -607,7 +620,7 @@ fn level_facts(before: Chips, after: Chips, rises: u8, falls: u8, told: u8) -> [
 fn told_levels(op: u8, port: u8, x: u8) -> u8 {
     match op {
         0 => 0,
-        1 => match asked::master_port(port) {
+        1 => match which::master_port(port) {
             0 => 255 * (1 - x / 16 % 2),
             _ => 255,
         },

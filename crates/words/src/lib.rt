@@ -1,14 +1,6 @@
-// The words of the program `lesson`: how a text is read line by line, which sentence says what, and how texts are laid out.
-pub mod answered;
+// What the program `lesson` says of the chips: what a record asks for, what came of it, why it was refused, and the state that they are in.
 pub mod asked;
 pub mod chips;
-pub mod filters;
 pub mod happened;
-pub mod held;
-pub mod lines;
-pub mod memory;
-pub mod output;
-pub mod pieces;
-pub mod sentences;
+pub mod refused;
 pub mod shown;
-pub mod text;

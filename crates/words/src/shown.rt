@@ -1,9 +1,8 @@
 // The state of the chips, a line for each of their parts.
-use crate::answered;
 use crate::chips::Chips;
-use crate::sentences;
-use crate::text;
 use icu::Icu;
+use sentences::text;
+use sentences::which;
 
 // All, or one chip: 1 the master, 2 the slave, 3 the timer, 4 the DMA chip.
 pub fn print(chips: Chips, which: u32) -> bool {
@@ -21,21 +20,36 @@ pub fn print(chips: Chips, which: u32) -> bool {
 
 fn print_icu(chips: Chips, slave: bool) -> bool {
     let i = chips.chip(slave);
-    let lines = chips.lines(slave);
+    let lines = chips.lines_of(slave);
     let irr = i.irr(lines);
     let asked = i.asked(lines);
-    let mut f = [0u8; 16];
-    f[0] = slave as u8;
-    f[1] = i.isr;
-    f[2] = irr;
-    f[3] = i.imr;
-    f[4] = answered::cause_of_low(irr, asked);
-    f[5] = icu::highest(i.isr, i.lowest);
-    f[6] = i.stage;
-    if i.int(lines) {
-        f[4] = 3;
-        f[5] = icu::highest(asked, i.lowest);
-    }
+    let int = i.int(lines);
+    let cause = match int {
+        true => 3,
+        false => which::cause_of_low(irr, asked),
+    };
+    let level = match int {
+        true => icu::highest(asked, i.lowest),
+        false => icu::highest(i.isr, i.lowest),
+    };
+    let f = [
+        slave as u8,
+        i.isr,
+        irr,
+        i.imr,
+        cause,
+        level,
+        i.stage,
+        0,
+        0,
+        0,
+        0,
+        0,
+        0,
+        0,
+        0,
+        0,
+    ];
     if i.stage != Icu::READY {
         return text::print_below(sentences::shown(1, f));
     }
@@ -96,13 +110,24 @@ fn print_counter(chips: Chips, k: u8) -> bool {
 
 fn print_dma(chips: Chips) -> bool {
     let d = chips.dma;
-    let mut f = [0u8; 16];
-    f[0] = d.wide as u8;
-    f[1] = d.disabled as u8;
-    f[2] = d.requests;
-    f[3] = d.ends;
-    f[4] = d.serving as u8;
-    f[5] = d.channel;
+    let f = [
+        d.wide as u8,
+        d.disabled as u8,
+        d.requests,
+        d.ends,
+        d.serving as u8,
+        d.channel,
+        0,
+        0,
+        0,
+        0,
+        0,
+        0,
+        0,
+        0,
+        0,
+        0,
+    ];
     text::print_below(sentences::shown(5, f))
         && print_channel(chips, 0)
         && print_channel(chips, 1)
@@ -114,21 +139,23 @@ fn print_channel(chips: Chips, k: u8) -> bool {
     let c = chips.channel(k);
     let current = c.current;
     let base = c.base;
-    let a = notation::line::little(current.address);
-    let b = notation::line::little(base.address);
+    let at = current.address;
+    let from = base.address;
+    let left = current.count;
+    let all = base.count;
     let f = [
-        a[0],
-        a[1],
-        a[2],
+        (at % 256) as u8,
+        (at / 256 % 256) as u8,
+        (at / 65536 % 256) as u8,
         0,
-        b[0],
-        b[1],
-        b[2],
+        (from % 256) as u8,
+        (from / 256 % 256) as u8,
+        (from / 65536 % 256) as u8,
         0,
-        (current.count % 256) as u8,
-        (current.count / 256 % 256) as u8,
-        (base.count % 256) as u8,
-        (base.count / 256 % 256) as u8,
+        (left % 256) as u8,
+        (left / 256 % 256) as u8,
+        (all % 256) as u8,
+        (all / 256 % 256) as u8,
         k,
         c.masked as u8,
         c.mode,

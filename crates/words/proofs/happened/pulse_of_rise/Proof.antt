@@ -5,16 +5,12 @@ use Rattle.words.proofs.happened.pulse_of_rise.Tie as tie
 use Rattle.words.proofs.happened.pulse_of_rise.Reads as reads
 use Rattle.words.proofs.happened.pulse_of_rise.Lts as lts
 use Rattle.timer.proofs.Counter.run.Reads as run-reads
-use Rattle.words.proofs.chips.Chips.counter.Reads as counter-reads
 
 abbrev Inv-loop : tie.InvT-loop
-Inv-loop k pulses rises c low₀ high₀ turns₀ low high turns = Unit {0}
+Inv-loop c pulses rises low₀ high₀ turns₀ low high turns = Unit {0}
 
 abbrev μ-loop : tie.MeasureT-loop
-μ-loop k pulses rises c low₀ high₀ turns₀ low high turns = 17 - turns
-
-counter-requires : tie.Need-counter-requires Inv-loop μ-loop
-counter-requires c κs = search needs
+μ-loop c pulses rises low₀ high₀ turns₀ low high turns = 17 - turns
 
 add-high : tie.Need-add-high Inv-loop μ-loop
 add-high c = search needs
@@ -46,7 +42,6 @@ pulse-of-rise-spec =
     (tie.spec
     Inv-loop
     μ-loop
-    counter-requires
     add-high
     loop-holds
     add-middle
