@@ -2,6 +2,8 @@
 # building. It is taken in after start.sh, with `root` set to the checkout's folder.
 # shellcheck shell=sh disable=SC2015,SC2154,SC3045
 
+. "$root/scripts/scratch.sh"
+
 # Finds the toolchain: `tools` is its folder for this machine, `lib` has its C library, `emulator` is empty where programs run without one.
 find_tools() {
     command -v rt >/dev/null || fail "rt, the Rattle toolchain, is not found by PATH, which is $PATH"
@@ -15,15 +17,16 @@ find_tools() {
     [ -n "$emulator" ] || [ "$machine" = x86_64 ] || fail "programs are for x86-64, and the toolchain has no emulator here"
 }
 
-# Leaves nothing behind at the end, also when a signal comes: no temporary folder (a script may have one of its own, `stage`, and a file,
-# `unfinished`), nobody who waits for the lock, and no build going on. (rt is the head of a session of its own, and all that it started is
-# ended with it; a moment after its start it is not yet.)
-room='' stage='' unfinished='' waiter='' builder=''
+# Leaves nothing behind at the end, also when a signal comes: no temporary folder (`room`, and `scratch` in memory; a script may have one of
+# its own, `stage`, and a file, `unfinished`), nobody who waits for the lock, and no build going on. (rt is the head of a session of its own,
+# and all that it started is ended with it; a moment after its start it is not yet.)
+room='' scratch='' stage='' unfinished='' waiter='' builder=''
 clean() {
     [ -z "$waiter" ] || kill -s TERM "$waiter" 2>/dev/null
     [ -z "$builder" ] || kill -s TERM -- "-$builder" 2>/dev/null || kill -s TERM "$builder" 2>/dev/null
-    [ -z "$room$stage$unfinished" ] || rm -rf ${room:+"$room"} ${stage:+"$stage"} ${unfinished:+"$unfinished"}
-    room='' stage='' unfinished='' waiter='' builder=''
+    [ -z "$room$scratch$stage$unfinished" ] ||
+        rm -rf ${room:+"$room"} ${scratch:+"$scratch"} ${stage:+"$stage"} ${unfinished:+"$unfinished"}
+    room='' scratch='' stage='' unfinished='' waiter='' builder=''
 }
 stop() { # SIGNAL
     clean
@@ -117,7 +120,9 @@ run_rt() { # LOG WORDS..
         rm -f "$root/target/log/$crate.out"
     done
     began=$(date +%s)
-    (cd "$root" && RT_JOBS=${RT_JOBS:-6} exec setsid rt "$@") </dev/null >"$log" 2>&1 &
+    make_scratch
+    (cd "$root" && RT_JOBS=${RT_JOBS:-6} && export RT_JOBS && { [ -z "$scratch" ] || { TMPDIR=$scratch && export TMPDIR; }; } &&
+        exec setsid rt "$@") </dev/null >"$log" 2>&1 &
     builder=$!
     while kill -s 0 "$builder" 2>/dev/null; do
         sleep 1
@@ -126,6 +131,8 @@ run_rt() { # LOG WORDS..
     wait "$builder"
     ended_with=$?
     builder=
+    [ -z "$scratch" ] || rm -rf "$scratch"
+    scratch=
     tell_progress
     [ "$ended_with" -eq 0 ] || {
         sed '/(unchanged since/d' "$log" | tail -n 20 >&2
