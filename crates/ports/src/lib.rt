@@ -189,7 +189,7 @@ Dn  the bit of level n, or of channel n
 00 to FF  ports, bytes and addresses are hexadecimal, pulses decimal
 001  after D7-D5 and the like: these bits, the highest first
 (4)  is refused, with the status 4: card refused
-(1)  meets every port while a DMA channel has the bus
+(1)  meets every port that is there while a DMA channel has the bus
 write 2A 44  a record, as lessons have it
 ```
 
@@ -205,8 +205,9 @@ D7-D0  of IRR and ISR: level 7 to level 0. A read clears nothing.
 write 00 13  IW1: edge trigger, single, IW4 follows
 write 01 40  IW2: vectors 40 to 47
 write 01 01  IW4: vector mode, normal FI. Now it is ready.
-line 0  is OUT0 of the timer; no record sets it
-line 1 to 7  the record intp has them in D1 to D7: intp 08 is line 3
+line 0  is OUT0 of the timer; intp with D0 set is refused (2)
+line 1 to 7  the record intp has them in D1 to D7, all at once: intp 08 is
+  line 3 high and the others low, so their requests go
 line 7  is high too while the slave's INT is
 INT  high while the chip is ready and a level that asks and is not
   masked outranks every level in service
@@ -275,16 +276,18 @@ Then the chip is ready. The slave's goes to 31.
 An acknowledge takes level n, the highest-ranked that asks and is unmasked:
 request  of level n goes; in level trigger its line asks on
 normal FI  bit n of ISR is set, until PFCW finishes it
-self-FI  no ISR bit is set; n becomes lowest if PFCW 80 turned that on
+self-FI  no ISR bit is set, so nothing holds up a later request, in level
+  trigger not the same line either; n becomes lowest if PFCW 80 turned it on
 vector  one byte: D7-D3 of IW2, then n. IW2 40 and level 3: 43
 CALL  three bytes, CD, low and high. High is IW2.
 AG4 1  low is D7-D5 of IW1 plus 4n. IW1 B6, IW2 12, level 3: CD AC 12
 AG4 0  low is D7-D6 of IW1 plus 8n. IW1 B2, IW2 12, level 3: CD 98 12
 level 7  of an extended master: the slave gives the bytes. Card 30
 INT low  the master answers as its level 7, and nothing changes: no ISR bit
-  is set, no request goes, no rank turns. Give no finish for it.
-(3)  the master is not ready, or the two do not fit: card IW1. Where both
-  are extended, both are in vector mode, or both in CALL mode.
+  is set, no request goes, no rank turns. Give no finish for it. In normal FI
+  D7 of ISR is 0 then, unless level 7 was in service before.
+(3)  the master is not ready, or the two do not fit: card IW1. Two extended
+  chips have to be both in vector mode or both in CALL mode.
 write 01 01  vector mode, normal FI
 write 01 03  vector mode, self-FI
 ```
@@ -329,7 +332,7 @@ D2-D0  the level, where D6 is 1; else ignored
 111  the same, and it becomes the lowest, also if it was not in service
 110  the named level becomes the lowest; nothing ends
 100  in self-FI, each level that is acknowledged becomes the lowest
-000  ends that
+000  ends that; the ranks stay
 010  nothing
 ranks  after IW1 level 0 is the highest and 7 the lowest. If the lowest is
   L, the highest is L plus 1, and so on round to L.
@@ -359,7 +362,8 @@ write  stores the count. The counter takes it over at a later pulse:
   modes 2 and 3: the first count at the next one, a later count when
   the counter reloads: card modes
   modes 1 and 5: at the pulse after GATE rises
-mode 0  each byte written takes OUT low, and half a count stops counting
+mode 0  each byte written takes OUT low, and half a count stops counting.
+  A request by OUT0 that is not acknowledged yet goes with it.
 read  the counter's value now, or what a latch holds; bytes as RWM says
 RWM 11  a read of one byte leaves the high byte for the next read. Reads
   and writes have a place each; a mode word sets both back.
@@ -379,10 +383,13 @@ D0  BCD: 0 binary; 1 is refused (4)
 With RWM 01, 10 or 11 it is a mode word: OUT goes low in mode 0, high in
 the others. A latch, a trigger, half a count and half a read are dropped.
 The value stays, and nothing counts until a count is complete.
-OUT0  is line 0 of the master: a mode word that raises it makes a request
+OUT0  is line 0 of the master, once that is ready: a mode word that raises it
+  makes a request, a word of mode 0 takes it away. In level trigger it asks
+  as long as OUT0 is high, and modes 1 to 5 start high.
 With RWM 00 it is a latch, and D3-D0 are ignored. Reads then show the value
 of that moment, while the counter goes on. The latch is free when its last
-byte is read; until then a second latch does nothing.
+byte is read; until then a second latch does nothing. After half a read the
+next byte is a high one, latched or not; only that one is the latch's.
 (3)  a latch for a counter with no mode
 (2)  a read of 13
 write 13 10  counter 0: low byte, mode 0
@@ -410,13 +417,16 @@ mode 5  as mode 4, N + 1 pulses after GATE rises
 pulse  the first one takes the count over, and counts nothing
 reload  mode 2: at the end of each period. Mode 3: at the end of each half.
   Both: at the pulse after GATE rises; OUT is high then.
-GATE 0  modes 0, 2, 3 and 4 do not count; in 2 and 3 OUT goes high at once
+GATE 0  modes 0, 2, 3 and 4 do not count; in 2 and 3 a low OUT goes high at
+  once, and OUT0 asks. A count is taken over all the same; modes 0 and 4 then
+  need N pulses more once GATE is high.
 GATE 0  modes 1 and 5 count on; a rise alone matters, and starts them anew
 rise  of GATE before the first count is complete: starts nothing
 past 0  modes 0, 1, 4 and 5 count on, from 0 to FFFF and down; 4 and 5 have
   OUT low for one pulse whenever they come to 0
 least  N is 1; in modes 2 and 3 it is 2, and 1 is refused (6)
-gates 06  takes GATE0 low. gates 07 has all three high, as after reset.
+gates 06  takes GATE0 low; gates 07 after it is a rise of GATE0. After reset
+  all three are high, so gates 07 alone is no rise.
 advance 5  gives five pulses to all three counters
 ```
 
@@ -426,9 +436,9 @@ advance 5  gives five pulses to all three counters
 D7-D2  ignored. Write 0.
 D1  16B: 0 the bus has 8 bits; 1 it has 16, and words can be moved
 D0  RES: 1 resets the chip; 0 changes the bus alone
-reset  masks all four channels. Modes, addresses and counts, current and
-  base, device control and end bits are 0. Channel 0 is selected, with
-  BASE 0. The request lines stay.
+reset  masks all four channels. Modes, device control and end bits are 0, and
+  addresses and counts, current and base: on the chip these two stay. Channel
+  0 is selected, with BASE 0. The request lines stay.
 (2)  a read
 (4)  D1-D0 00 while a channel, masked or not, has a word mode (D0 of 2A)
 After the record reset the bus has 8 bits.
@@ -466,10 +476,11 @@ N  as a count moves N plus one units: bytes, or words with D0 of 2A
 words  for B bytes N is half of B, less one
 21  says whose count it is, and whether base alone is meant
 write  replaces this byte and leaves the other one. Write both.
-read  current, one less than the units to come; FFFF once it ran out.
-  With AUTI the end brings base back.
+read  current: what is left, less one; FFFF once it ran out. After END it
+  stays where it was, and the channel is masked. With AUTI it is base again.
 unit  each one takes 1 from current; one that finds it at 0 is the last
-END  ends a transfer sooner, with the unit that it comes with
+END  ends a transfer sooner, with the unit that it comes with; in a cycle
+  that moves no unit it is nothing
 The count of a counter is card 10.
 write 22 02  and write 23 00: count 0002, three units
 write 22 FF  and write 23 01: count 01FF, 512 units
@@ -482,11 +493,11 @@ write 22 FF  and write 23 01: count 01FF, 512 units
 write  replaces this byte and leaves the other two. Write all three.
 read  current, that of the next unit. With AUTI the end brings back base.
 step  1 for each unit, 2 with words; up or down as D5 of 2A says. Upwards
-  000000 comes after FFFFFF.
-words  the lower byte goes to an even address, the upper to the next. At an
-  odd address the pair starts one below: to memory, that byte is lost.
-end  a lesson has memory from 000000 to 00FFFF. Past it a write is lost
-  and a read gives FF. No port tells; the row of a lesson does.
+  000000 comes after FFFFFF, with words after FFFFFE; downwards the reverse.
+words  the lower byte has the even address, the upper the next. At an odd
+  address the pair starts one below, and to memory it overwrites that byte.
+end  a lesson has memory from 000000 to 00FFFF, or as lend says. Past it a
+  write is lost and a read gives FF. No port tells; the row of a lesson does.
 write 24 34  low byte of 001234
 write 25 12  its middle byte
 write 26 00  its high byte
@@ -513,6 +524,8 @@ read  28 shows D4 and D2, 29 shows 00
 ROT 1  the channel that gives the bus back becomes the last, and the next
   number the first; after 3 comes 0. Turned on, channel 0 is first.
 write 28 04  disable, before registers are written while a device asks
+write 28 14  the same with rotating ranks: 04 ends the rotation, and 10 after
+  it starts again with channel 0
 write 28 00  enable, fixed ranks
 write 28 10  enable, rotating ranks
 ```
@@ -534,9 +547,13 @@ D1  0; 1 is refused (4)
 D0  W/B: 0 bytes; 1 words, refused (4) on the 8-bit bus. Card 20
 read  the mode as it was written; 00 after a reset
 cycle  the first gives the channel the bus and moves nothing. Then:
-demand  a unit a cycle to the end; one with the request low frees the bus
-single  one unit, then the bus is free, and the next cycle grants it anew
+cycle 41  the device's byte; with words cycle 41 42, and 00 if 42 is left out
+demand  a unit a cycle to the end; a cycle with the request low moves nothing
+  and frees the bus
+single  one unit, then the bus is free. The next cycle grants it anew if it
+  still asks and no channel before it does.
 block  a unit a cycle to the end, whatever the request does
+end  frees the bus, with AUTI too; a cycle has to grant it anew
 verify  steps and counts, and moves nothing
 The mode of a counter is card modes.
 write 2A 44  single, to memory, bytes, upwards
@@ -550,7 +567,8 @@ write 2A 85  block, to memory, words, upwards; write 20 02 before it
 ```
 D7-D4  RQ3 to RQ0: the request lines as they are now, masked or not
 D3-D0  TC3 to TC0: the channel came to its end, by its count or by END
-A read clears D3-D0 and nothing else.
+A read clears D3-D0 and nothing else. No write but a reset at 20 clears them:
+an end bit that was not read stays on through the next transfer.
 (2)  a write
 (1)  a read while a channel has the bus; it clears nothing
 An end bit does not say that each byte is in memory: card 24.
@@ -581,16 +599,19 @@ write 2F 0F  all are masked
 
 ```
 IW1, MCW, PFCW, IRR and ISR are as the master's: cards 00, IW1, MCW, PFCW.
-lines  the record slave has lines 0 to 7 in D0 to D7; none is a counter's
+lines  the record slave has lines 0 to 7 in D0 to D7, all at once; none is
+  a counter's
 INT  goes to line 7 of the master, beside INTP7, and is in no column
 Both chips extended: where an acknowledge takes level 7 in the master, it
 takes a level in the slave too, and the slave gives the bytes.
 finish  both: write 30 20, then write 00 20. Neither does the other's work.
 INT low  with INTP7 high: the slave answers as its level 7 and sets no ISR
-  bit; the master sets its own
+  bit; the master sets its own, but not in self-FI. Finish the master alone.
 Both single: the master gives its own bytes of level 7; nobody serves the
 slave, which asks on.
-edge  while the slave's INT stays high, the master gets no new request
+edge  the master asks anew only when line 7 rises. It does not while INTP7 or
+  the slave's INT stays high, as in self-FI of the slave with a second level
+  asking; nor if it was high before the master was ready.
 write 00 11  then 01 40, 01 80, 01 01: the master, extended, vectors 40-47
 write 30 11  then 31 38, 31 07, 31 01: the slave, extended, vectors 38-3F
 slave 04  line 2 of the slave; the acknowledge after it gives 3A
@@ -609,7 +630,7 @@ IMR  masks levels of the slave. D7 of the master's masks them all.
 read  IMR of the slave
 (3)  a write before IW1 at 30, a read before the slave is ready
 write 31 38  after IW1: IW2, vectors 38 to 3F
-write 31 07  after IW2: IW3
+write 31 07  after IW2, if extended: IW3. In single it would be IW4, self-FI.
 write 31 01  then IW4: vector mode, normal FI
 write 31 FB  when ready: IMR, all levels masked but level 2
 ```
@@ -619,12 +640,14 @@ write 31 FB  when ready: IMR, all levels masked but level 2
 ```
 0  done
 1  a read, write or acknowledge while a DMA channel has the bus; so it is
-  for every port. Give it cycle until the bus is free.
+  for every port. It ends by cycle, and each cycle moves a unit: to memory,
+  cycle with no byte moves 00. In demand a low request ends it with no unit.
 2  no such record: no such port, line or level, a port that cannot be read
-  or written, more than 65535 pulses
+  or written, more than 65535 pulses; of raw, any byte that does not fit
 3  out of turn: an interrupt chip waits for a word, a counter has no mode,
   or master and slave do not fit for an acknowledge
-4  the chip has it and this board does not; or words on the 8-bit bus
+4  the chip has it and this board does not, or no sheet says what it does
+  (TDIR 11, D1 of 2A); or words and the 8-bit bus together
 5  is never given
 6  a count of 1 in mode 2 or 3
 7  no record has it: a whole call of the library was refused

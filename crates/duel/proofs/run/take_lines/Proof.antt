@@ -8,7 +8,7 @@ use Rattle.duel.proofs.run.cut_off.Reads as cut-off-reads
 use Rattle.duel.proofs.run.end_file.Reads as end-file-reads
 use Rattle.duel.proofs.run.start.Reads as start-reads
 use Rattle.duel.proofs.run.take_line.Reads as take-line-reads
-use Rattle.words.proofs.lines.take.Reads as take-reads
+use Rattle.reader.proofs.lines.take.Reads as take-reads
 
 abbrev Inv-loop : tie.InvT-loop
 Inv-loop fd path line₀ lump₀ reader₀ turns₀ line lump reader turns = Unit {0}
