@@ -41,8 +41,8 @@ done
 
 # Asks rt whether a crate, and all that it uses, is proved as it stands now. rt tells by its stamps, and would prove what is not. So it is
 # asked in a temporary folder, over a copy of the stamps: it writes nothing into target/, needs no lock, and cannot get far, for lack of
-# libraries and of processor time (two seconds for each of its processes; the asking itself takes some hundredths). It is current if rt is
-# content and made nothing. Sets `stamp`, the crate's stamp, and `old`, the crates that are still to be proved.
+# libraries, of memory (a prover ends at once in 400 MB) and of processor time (two seconds for each of its processes; the asking itself takes some
+# hundredths). It is current if rt is content and made nothing. Sets `stamp`, the crate's stamp, and `old`, the crates that are still to be proved.
 is_current() { # CRATE
     room=$(mktemp -d) || fail "no temporary folder can be made"
     mkdir "$room/target" "$room/target/stamp" "$room/left" && ln -s "$root/crates" "$root/crates.txt" "$room" ||
@@ -50,7 +50,7 @@ is_current() { # CRATE
     # (a stamp that cannot be read, or goes or comes meanwhile, since rt is at work, is one that is not there)
     trouble=$(LC_ALL=C cp "$root"/target/stamp/* "$room/target/stamp/" 2>&1 | grep -v -e 'cannot stat' -e 'for reading' -e 'was replaced while')
     # (what a prover leaves that is stopped goes away with the folder)
-    said=$(cd "$room" && { ulimit -t 2 || :; } 2>/dev/null && TMPDIR="$PWD/left" rt check "$1" 2>&1 </dev/null)
+    said=$(cd "$room" && { ulimit -v 400000 || :; ulimit -t 2 || :; } 2>/dev/null && TMPDIR="$PWD/left" rt check "$1" 2>&1 </dev/null)
     content=$?
     if [ "$content" -ne 0 ]; then
         # rt takes a full disk for a failed proof
@@ -109,9 +109,8 @@ tell_progress() {
     shown=$at_work
 }
 
-# Runs rt, and says meanwhile how far it is with the crates of `old`. What rt prints of a crate comes with its whole group; target/log/ has
-# it at once.
-run_rt() { # LOG WORDS..
+# Runs rt, or prove.sh, which starts it, and says meanwhile how far it is with the crates of `old`, as target/log/ has it.
+run_rt() { # LOG COMMAND..
     log=$1
     shift
     left=$old shown='' again=0 count=0 total=0
@@ -121,8 +120,7 @@ run_rt() { # LOG WORDS..
     done
     began=$(date +%s)
     make_scratch
-    (cd "$root" && RT_JOBS=${RT_JOBS:-6} && export RT_JOBS && { [ -z "$scratch" ] || { TMPDIR=$scratch && export TMPDIR; }; } &&
-        exec setsid rt "$@") </dev/null >"$log" 2>&1 &
+    (cd "$root" && { [ -z "$scratch" ] || { TMPDIR=$scratch && export TMPDIR; }; } && exec setsid "$@") </dev/null >"$log" 2>&1 &
     builder=$!
     while kill -s 0 "$builder" 2>/dev/null; do
         sleep 1
@@ -136,8 +134,14 @@ run_rt() { # LOG WORDS..
     tell_progress
     [ "$ended_with" -eq 0 ] || {
         sed '/(unchanged since/d' "$log" | tail -n 20 >&2
-        fail "rt $* failed; all that it said is in $log"
+        fail "the proof failed; all that rt said is in $log"
     }
+}
+
+# Proves the crates of `old`.
+prove_old() { # NAME
+    # shellcheck disable=SC2086
+    run_rt "$root/target/run/$1.log" sh "$root/scripts/prove.sh" "$root" $old
 }
 
 # Sets `program` to the file to start: a copy of target/bin/NAME under its stamp, since rt may write target/bin anew at any time. rt removes
@@ -176,7 +180,7 @@ need_program() { # NAME
         old=$1
     fi
     say "building $1, since $why: it is proved first, which can take some minutes"
-    run_rt "$root/target/run/$1.log" check "$1"
+    prove_old "$1"
     is_current "$1" && place "$1" || fail "$1 was changed while it was built: start it again"
     rm -f "$root/target/run/new-$1"-*
     exec 7<&-
@@ -198,10 +202,10 @@ need_library() {
     if ! library_is_current; then
         say "building the library, since $why: it is proved first, which can take some minutes"
         rm -f "$archive.stamp"
-        is_current host || run_rt "$root/target/run/host.log" check host
+        is_current host || prove_old host
         is_current host || fail "the library was changed while it was built: start it again"
         built_from=$stamp
-        run_rt "$root/target/run/libhost.log" staticlib host
+        run_rt "$root/target/run/libhost.log" rt staticlib host
         is_current host && [ "$stamp" = "$built_from" ] || fail "the library was changed while it was built: start it again"
         echo "$stamp $(sha256sum <"$archive")" >"$archive.stamp"
     fi

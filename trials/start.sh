@@ -596,6 +596,9 @@ trial_run_builds() { # of two at once one builds and the other waits; it says ho
     says_of run: failed
     log=$(sed -n 's/^run: .* in \(.*[.]log\)$/\1/p' said)
     [ -s "$log" ] || wrong 'the log' 'its path in the message' "$(tail -n 1 said)"
+    # a file is named where it is, and nothing is left of the folder that it was proved in
+    grep -q '^crates/hello/src/main.rt:' "$log" || wrong 'the log' 'the file at fault, from the checkout on' "$(cat "$log")"
+    [ ! -e small/target/run/rooms ] || wrong small/target/run/rooms 'no such folder' "$(look small/target/run/rooms)"
 }
 
 trial_run_waiting_killed() { # a ./run that waits for another build ends at once when it is killed
