@@ -332,6 +332,50 @@ goes c s n =
     (λ m5. rests c n (rw (f, m0, m1, m2, m3, m4, m5)))))))))
     (λ f. rests c n (rw f))
 
+-- What n steady pulses come to, read off `steadyOf` once for each way that it can go. A proof that has the tests cites these, and need not open it.
+module _ (c : Counter) (n : ℕ) where
+  -- Without a complete count a counter stays as it is.
+  pub steady-unset : c .full ≡ false → steadyOf c n ≡ rested c
+  unfolding steadyOf
+  steady-unset f = rw f
+
+  module _ (f : c .full ≡ true) where
+    -- In mode 0 a counter with a complete count falls by that mode's rule while GATE is high and no count is half written, and otherwise stays as it is.
+    pub steady-in-0 : c .mode ≡ 0 → steadyOf c n ≡ steady0 c n
+    unfolding steadyOf
+    steady-in-0 m = rw (f, m)
+
+    -- In mode 1 it stays as it is while a count pends, and otherwise falls by the rule of mode 0.
+    pub steady-in-1 : c .mode ≡ 1 → steadyOf c n ≡ steady1 fall0 c n
+    unfolding steadyOf
+    steady-in-1 m = rw (f, m)
+
+    -- In mode 2 it falls by that mode's rule while GATE is high, and otherwise stays as it is.
+    pub steady-in-2 : c .mode ≡ 2 → steadyOf c n ≡ steady2 (fall2 (c .count)) c n
+    unfolding steadyOf
+    steady-in-2 m = rw (f, m)
+
+    -- In mode 3 it falls by that mode's rule while GATE is high, and otherwise stays as it is.
+    pub steady-in-3 : c .mode ≡ 3 → steadyOf c n ≡ steady2 (fall3 (c .count)) c n
+    unfolding steadyOf
+    steady-in-3 m = rw (f, m)
+
+    -- In mode 4 it falls by that mode's rule while GATE is high, and otherwise stays as it is.
+    pub steady-in-4 : c .mode ≡ 4 → steadyOf c n ≡ steady2 fall4 c n
+    unfolding steadyOf
+    steady-in-4 m = rw (f, m)
+
+    -- In mode 5 it stays as it is while a count pends, and otherwise falls by the rule of mode 4.
+    pub steady-in-5 : c .mode ≡ 5 → steadyOf c n ≡ steady1 fall4 c n
+    unfolding steadyOf
+    steady-in-5 m = rw (f, m)
+
+    -- In none of the six modes it stays as it is.
+    pub steady-in-none : eqb (c .mode) 0 ≡ false → eqb (c .mode) 1 ≡ false → eqb (c .mode) 2 ≡ false → eqb (c .mode) 3 ≡ false → eqb (c .mode) 4 ≡ false → eqb (c .mode) 5 ≡ false
+        → steadyOf c n ≡ rested c
+    unfolding steadyOf
+    steady-in-none m0 m1 m2 m3 m4 m5 = rw (f, m0, m1, m2, m3, m4, m5)
+
 -- Each pulse makes OUT rise once at most.
 rise-small : (was now : Bool) → riseOf was now ≤ 1
 rise-small true now = omega arith
