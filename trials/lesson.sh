@@ -580,8 +580,8 @@ write 30 11\nwrite 31 38\n|3: out of turn, the master is extended, and the slave
 write 30 13\nwrite 31 38\nwrite 31 01\n|3: out of turn, the master is extended and the slave is single
 write 00 13\nwrite 01 40\nwrite 01 01\n|3: out of turn, the master is single and the slave is extended
 write 30 10\nwrite 31 38\nwrite 31 07\n|3: out of turn, the master is in vector mode and the slave in CALL mode
-write 00 11\nwrite 01 40\nwrite 01 07\n|4: not built, a slave on any line but 7; IW3 must be 80 here
-write 30 11\nwrite 31 38\nwrite 31 80\n|4: not built, a slave on any line but 7; IW3 must be 07 here
+write 00 11\nwrite 01 40\nwrite 01 07\n|4: not built, any slave but one on line 7; IW3 must be 80 here
+write 30 11\nwrite 31 38\nwrite 31 80\n|4: not built, any slave but one on line 7; IW3 must be 07 here
 END
     # line 7 of a single master is a line like others, whoever raises it
     printf 'write 00 13\nwrite 01 40\nwrite 01 01\nwrite 30 13\nwrite 31 38\nwrite 31 01\nslave 20\nacknowledge\n' >x

@@ -1,5 +1,5 @@
 // A lesson under way, or lines as they are typed: what is to be done next, and what is told of it. The board is elsewhere; its chips are shown to the desk before and after each
-// record.
+// record, and its memory is lent to it.
 use notation::line::Parsed;
 use reader::comments;
 use reader::expected;
@@ -16,20 +16,19 @@ use sentences::text::Text;
 use words::chips;
 use words::chips::Chips;
 use words::chips::Manner;
-use words::chips::Unit;
 use words::happened;
 use words::shown;
 
-// What is to be done elsewhere: nothing, the record that is due, a reset with which all begins anew, a memory line, or a look at the memory.
+// What is due: nothing; on the board, the record that is next or a reset with which all begins anew; in the memory, a line that sets it or one that expects something of it.
 pub const NOTHING: u8 = 0;
 
 pub const RECORD: u8 = 1;
 
 pub const RESET: u8 = 2;
 
-pub const PUT: u8 = 3;
+const PUT: u8 = 3;
 
-pub const COMPARE: u8 = 4;
+const COMPARE: u8 = 4;
 
 pub struct Desk {
     // what is done with the lesson, and whether a guess is still asked for somewhere: then rows say no more than the answers
@@ -93,7 +92,7 @@ impl Desk {
         filters::record_of(line, self.checked, self.at)
     }
 
-    // What is due: the next record of the line under way, or what the next line asks for.
+    // What is due: the next record of the line under way, or what the next line asks for. What of it is not the board's is done.
     pub fn take(
         self,
         chips: Chips,
@@ -101,6 +100,8 @@ impl Desk {
         path: &[u8],
         line: &mut [u8; 1000],
         lump: &mut [u8; 65536],
+        memory: &mut [u8; 65536],
+        marks: &mut [u8; 65536],
     ) -> Desk {
         let mut next = self;
         if 0 < self.left {
@@ -117,6 +118,31 @@ impl Desk {
             return next;
         }
         next.take_line(chips, line)
+            .use_memory(chips.levels(), line, memory, marks)
+    }
+
+    // What is due in the memory; all begins anew with zeros, and with no byte marked as written.
+    fn use_memory(
+        self,
+        levels: u8,
+        line: &[u8; 1000],
+        memory: &mut [u8; 65536],
+        marks: &mut [u8; 65536],
+    ) -> Desk {
+        let due = self.due;
+        match due {
+            PUT => {
+                memory::put(line, self.length(line), self.parsed, memory);
+                self
+            }
+            COMPARE => self.compare(levels, line, memory),
+            RESET => {
+                memory::clear(memory);
+                memory::clear(marks);
+                self
+            }
+            _ => self,
+        }
     }
 
     fn take_line(self, chips: Chips, line: &[u8; 1000]) -> Desk {
@@ -234,13 +260,8 @@ impl Desk {
         )
     }
 
-    // The bytes of a memory line, put where it says.
-    pub fn put(self, line: &[u8; 1000], memory: &mut [u8; 65536]) {
-        memory::put(line, self.length(line), self.parsed, memory);
-    }
-
     // Memory that is expected now.
-    pub fn compare(self, levels: u8, line: &[u8; 1000], memory: &[u8; 65536]) -> Desk {
+    fn compare(self, levels: u8, line: &[u8; 1000], memory: &[u8; 65536]) -> Desk {
         let p = self.parsed;
         let k = expected::first_apart(line, self.length(line), p, memory) % 65536;
         let found = expected::found(p.number % 65536 + k, memory);
@@ -256,7 +277,7 @@ impl Desk {
         next.tally = t.with_check(wrong);
         next.wrong = wrong;
         let answer = match wrong {
-            true => found,
+            true => Text::new().say(b"not so: ").and(found),
             false => Text::new().say(b"as expected"),
         };
         next.written = self.print_row(Text::new().say(b"expect ").and(said), answer, levels);
@@ -287,15 +308,18 @@ impl Desk {
         }
     }
 
-    // The record that was due is done: what is counted of it, and its row.
+    // The record that was due is done: what is counted of it, what is marked as written, and its row.
     pub fn tell(
         self,
         before: Chips,
         after: Chips,
         a: [u8; 16],
-        unit: Unit,
         line: &[u8; 1000],
+        marks: &mut [u8; 65536],
     ) -> Desk {
+        let lent = self.lent();
+        let unit = chips::unit_of(before, a, lent);
+        memory::mark(marks, unit.address, unit.written, lent);
         let r = self.record(line);
         let p = self.checked;
         let wrong = expected::is_wrong(a, p);
@@ -347,7 +371,7 @@ impl Desk {
         let answer = other
             .and(happened::words(before, after, r, a, manner))
             .and(expected::levels_now(self.wrong, p, levels));
-        let shape = shape_of(asked, answer, levels, byte_read(a[1], a[2]));
+        let shape = shape_of(asked, answer, levels, byte_read(a[1], a[2], a[5]));
         let mut next = self;
         next.last = shape;
         if (p.times != 1) & shape.is_same(self.last) {
@@ -420,10 +444,11 @@ fn open_to(port: u8) -> u8 {
     tape::is_writable(port) as u8 | (tape::is_readable(port) as u8) << 1
 }
 
-// The byte that a read gave; rows of others are alike where their bytes are not.
-fn byte_read(op: u8, byte: u8) -> u8 {
+// What a read gave, or an acknowledge: a vector, or the low byte of a CALL. Rows of others are alike where their bytes are not.
+fn byte_read(op: u8, byte: u8, low: u8) -> u8 {
     match op {
         2 => byte,
+        4 => byte | low,
         _ => 0,
     }
 }

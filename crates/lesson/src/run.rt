@@ -1,13 +1,11 @@
-// A lesson on the board: the desk says what is due, and the board does it.
+// A lesson on the board: the desk says which record is due, and the board does it.
 ghost use Prim.Native.Nat.{_≤_};
 use board::Board;
 use board::Stepped;
 use desk::Desk;
 use reader::filters;
-use reader::memory;
 use reader::output;
 use reader::usage;
-use words::chips;
 use words::chips::Chips;
 
 struct Round {
@@ -57,48 +55,12 @@ fn take_record(
     memory: &mut [u8; 65536],
     marks: &mut [u8; 65536],
 ) -> Round {
-    let lent = desk.lent();
-    let s = step(board, desk.record(line), memory, lent as usize);
+    let s = step(board, desk.record(line), memory, desk.lent() as usize);
     let next = s.board;
     let answer = s.answer;
-    let before = chips_of(board);
-    let unit = chips::unit_of(before, answer, lent);
-    memory::mark(marks, unit.address, unit.written, lent);
     Round {
         board: next,
-        desk: desk.tell(before, chips_of(next), answer, unit, line),
-    }
-}
-
-// What the memory is needed for.
-fn take_other(
-    board: Board,
-    desk: Desk,
-    line: &[u8; 1000],
-    memory: &mut [u8; 65536],
-    marks: &mut [u8; 65536],
-) -> Round {
-    let due = desk.due;
-    match due {
-        desk::PUT => {
-            desk.put(line, memory);
-            Round {
-                board: board,
-                desk: desk,
-            }
-        }
-        desk::COMPARE => Round {
-            board: board,
-            desk: desk.compare(board.levels(), line, memory),
-        },
-        _ => {
-            memory::clear(memory);
-            memory::clear(marks);
-            Round {
-                board: Board::reset(),
-                desk: desk,
-            }
-        }
+        desk: desk.tell(chips_of(board), chips_of(next), answer, line, marks),
     }
 }
 
@@ -113,15 +75,20 @@ fn take(
     marks: &mut [u8; 65536],
 ) -> Round {
     let board = round.board;
-    let desk = round.desk.take(chips_of(board), fd, path, line, lump);
+    let desk = round
+        .desk
+        .take(chips_of(board), fd, path, line, lump, memory, marks);
     let due = desk.due;
     match due {
-        desk::NOTHING => Round {
+        desk::RECORD => take_record(board, desk, line, memory, marks),
+        desk::RESET => Round {
+            board: Board::reset(),
+            desk: desk,
+        },
+        _ => Round {
             board: board,
             desk: desk,
         },
-        desk::RECORD => take_record(board, desk, line, memory, marks),
-        _ => take_other(board, desk, line, memory, marks),
     }
 }
 

@@ -64,8 +64,9 @@ fn print_row(memory: &[u8; 65536], marks: &[u8; 65536], at: usize) -> bool {
     while i < 16 {
         let p = (at % 65536 + i) % 65536;
         let x = memory[p];
-        t = put_written(t, x, marks[p]);
-        shown = put_shown(shown, x);
+        let mark = marks[p];
+        t = put_written(t, x, mark);
+        shown = put_shown(shown, x, mark);
         i += 1;
     }
     t.put(b' ').put(b' ').part(shown, 0, shown.n).print_line()
@@ -78,7 +79,10 @@ fn put_written(t: Text, x: u8, mark: u8) -> Text {
     t.put(b' ').hex(x)
 }
 
-fn put_shown(t: Text, x: u8) -> Text {
+fn put_shown(t: Text, x: u8, mark: u8) -> Text {
+    if mark == 0 {
+        return t.put(b'.');
+    }
     if x < 32 {
         return t.put(b'.');
     }

@@ -147,17 +147,17 @@ pub fn answered(n: u8, facts: [u8; 16], first: u64) -> Text {
 
 // What came of a record. Each piece begins with a semicolon and a space, or is empty. 10 is of the lines: 0 the levels that ask anew, 2 those that ask no more, 6 and 8 the
 // same of the slave, and after each how many these are (2 for several); 4 what became of INT, 5 the level in service that keeps it low, A what became of the slave's INT; B and
-// D the OUTs that rose and fell. 20 to 27 are of an interrupt chip's words: 0 the byte, 1 whether it is the slave's, 2 the levels that were finished, 3 how many, 4 those in
+// D the OUTs that rose and fell; E the lines that rose before their chip was ready, F how many, and 4 more for the slave's. 20 to 27 are of an interrupt chip's words: 0 the byte, 1 whether it is the slave's, 2 the levels that were finished, 3 how many, 4 those in
 // service, 5 what it awaits, 6 its first-ranked level. 30 to 34 are of a counter: 2 and 3 its latch, 4 what becomes of the count before this one, or when this one is taken over, 5 and 6 the
 // count. 40 to 43 are of the DMA chip: 8 and 9 a count, A the units that it stands for, 4 an address; for 42 0 the channels that ask and may be served, 2 those that are masked,
-// and how many, and 4 whether the chip is disabled. 50 is of gates: 0 the counters that will load, 2 those that stand still, 4 those that run on, and how many. 60 has the first
+// and how many, and 4 whether the chip is disabled. 50 is of gates: 0 the counters that will load, 2 those that stand still, 4 those that count now, 6 those that load and then stand still, and how many. 60 has the first
 // pulses at which an OUT rose, C its number, D how many are named, E whether there are more, &0 of them; 61 a counter's value and its number.
 pub fn happened(n: u8, facts: [u8; 16], first: u64) -> Text {
     fill(
         b"
-10 {B01|; OUT0 rises}{B11|; OUT1 rises}{B21|; OUT2 rises}{D01|; OUT0 falls}{D11|; OUT1 falls}{D21|; OUT2 falls}{702|; slave level*608 asks|; slave levels*608 ask}{902|; slave level*808 asks no more|; slave levels*808 ask no more}{A03|; slave INT rises|; slave INT falls|; slave INT stays low: masked|; slave INT stays low: level %C08 in service|; slave INT stays low: the slave is not ready|; slave INT stays low: masked, or level %C08 in service}{102|; level*008 asks|; levels*008 ask}{302|; level*208 asks no more|; levels*208 ask no more}{403|; INT rises|; INT falls|; INT stays low: masked|; INT stays low: level %508 in service|; INT stays low: the chip is not ready|; INT stays low: masked, or level %508 in service}
+10 {B01|; OUT0 rises}{B11|; OUT1 rises}{B21|; OUT2 rises}{D01|; OUT0 falls}{D11|; OUT1 falls}{D21|; OUT2 falls}{702|; slave level*608 asks|; slave levels*608 ask}{902|; slave level*808 asks no more|; slave levels*808 ask no more}{A03|; slave INT rises|; slave INT falls|; slave INT stays low: masked|; slave INT stays low: level %C08 in service|; slave INT stays low: the slave is not ready|; slave INT stays low: masked, or level %C08 in service}{102|; level*008 asks|; levels*008 ask}{302|; level*208 asks no more|; levels*208 ask no more}{403|; INT rises|; INT falls|; INT stays low: masked|; INT stays low: level %508 in service|; INT stays low: the chip is not ready|; INT stays low: masked, or level %508 in service}{F03|; line*E08 rose too early: the chip is not ready|; lines*E08 rose too early: the chip is not ready|||; slave line*E08 rose too early: the slave is not ready|; slave lines*E08 rose too early: the slave is not ready}
 
-20 ; level*208 finished{071|, and is lowest now}; in service:*408
+20 ; level*208 finished{071|, and is lowest now}; {101|slave }in service:*408
 21 ; nothing was in service: no effect
 22 ; level %003 was not in service{071: no effect|; it is lowest now}
 23 ; level %603 is highest now
@@ -169,7 +169,7 @@ pub fn happened(n: u8, facts: [u8; 16], first: u64) -> Text {
 30 ; waits for a count
 31 ; a latch waits to be read: no effect
 32 ; holds $3$2 until it is read
-33 ; waits for the high byte{402|; the old count runs on|; counting stops}
+33 ; waits for the high byte{402|; the old count runs on|; no pulse counts till then|; the old count stays till then}
 34 ; count $6$5{701| (65536)}: taken over {402at the next pulse|at the pulse after GATE rises|when the old count has run out|at the end of this half}
 
 40 ; count $9$8{401|: =A unit}{411|s}
@@ -177,7 +177,7 @@ pub fn happened(n: u8, facts: [u8; 16], first: u64) -> Text {
 42 {102|; channel*004 asks|; channels*004 ask}{302|; channel*204 asks but is masked (2F)|; channels*204 ask but are masked (2F)}{401|; the chip is disabled (28, D2)}
 43 ; every channel is masked
 
-50 {102|; counter*003 loads at the next pulse|; counters*003 load at the next pulse}{302|; counter*203 stands still|; counters*203 stand still}{502|; counter*403 runs on|; counters*403 run on}
+50 {102|; counter*003 loads at the next pulse|; counters*003 load at the next pulse}{302|; counter*203 stands still|; counters*203 stand still}{502|; counter*403 counts now|; counters*403 count now}{702|; counter*603 still loads at the next pulse, then stands still|; counters*603 still load at the next pulse, then stand still}
 
 60 ; OUT%C02 rose at pulse{D02| =0|s =0 =4|s =0 =4 =8}{E01| and &0 times more}
 61 ; counter %C02 at $1$0
@@ -199,7 +199,7 @@ pub fn shown(n: u8, facts: [u8; 16]) -> Text {
         b"
 00 {001master|slave}: ISR*108 ^ IRR*208 ^ IMR*308 ^ INT {403low: no level asks|low: every level that asks is masked|low: level %508 in service|high: level %508 asks}
 01 {001master|slave}: waits for {603IW1|IW2|IW4||IW3} at port {0010|3}{6030|1|1||1}
-02 counter %C02: mode %408, {A01no count yet|count $3$2}, at $1$0, OUT %508, GATE %608{931|, not taken over yet}{941|, loads at the next pulse}{901|, latched $8$7}{911|, half written}{921|, half read}
+02 counter %C02: mode %408, {A01no count yet|count written $3$2}, at $1$0, OUT %508, GATE %608{931|, not taken over yet}{941|, loads at the next pulse}{901|, latched $8$7}{911|, half written}{921|, half read}
 03 counter %C02: no mode
 04 channel %C02: @0, count $9$8, base @4/$B$A, masked {D01no|yes}, mode $E
 06 OUT %001%011%021, INT %031
@@ -221,15 +221,15 @@ pub fn refused(n: u8, facts: [u8; 16]) -> Text {
         b"
 10 1: channel %902 has the bus; give it cycles until it is done
 
-20 2: bytes 1 to 7 of a reset are zero
-21 2: bytes 3 to 7 of a write are zero
-22 2: bytes 2 to 7 of a read are zero
-23 2: bytes 3 to 7 of a lines record are zero
-24 2: bytes 1 to 7 of an acknowledge are zero
+20 2: bytes 1 to 7 of a reset must be zero
+21 2: bytes 3 to 7 of a write must be zero
+22 2: bytes 2 to 7 of a read must be zero
+23 2: bytes 3 to 7 of a lines record must be zero
+24 2: bytes 1 to 7 of an acknowledge must be zero
 25 2: one advance has at most 65535 pulses
-26 2: bytes 1 to 3 of an advance are zero
-27 2: END, byte 1 of a DMA cycle, is 0 or 1
-28 2: bytes 4 to 7 of a DMA cycle are zero
+26 2: bytes 1 to 3 of an advance must be zero
+27 2: END, byte 1 of a DMA cycle, must be 0 or 1
+28 2: bytes 4 to 7 of a DMA cycle must be zero
 29 2: there is no operation $0; they go from 00 to 06
 2A 2: port $1 cannot be {002|written|read}, only written
 2B 2: port $1 cannot be {002|written|read}, only read
@@ -245,7 +245,7 @@ pub fn refused(n: u8, facts: [u8; 16]) -> Text {
 34 3: out of turn, counter %262 has no mode yet
 35 3: out of turn, counter %102 has no mode yet
 
-40 4: not built, a slave on any line but 7; IW3 must be {C0180|07} here
+40 4: not built, any slave but one on line 7; IW3 must be {C0180|07} here
 41 4: not built, polling
 42 4: not built, the exceptional nesting mode
 43 4: not built, the multiple latch; there are counters 0 to 2

@@ -155,7 +155,7 @@ fn counter_words(before: Chips, after: Chips, port: u8, x: u8) -> Text {
         );
     }
     if now.half {
-        return four_facts(0x33, 0, 0, old_count(was.full, now.mode), 0, 0);
+        return four_facts(0x33, 0, 0, old_count(was), 0, 0);
     }
     let count = now.count;
     sentences::happened(
@@ -210,15 +210,26 @@ fn control(x: u8, latched: bool) -> u8 {
     0x32
 }
 
-// What half a count does to the one before it: nothing where there is none, in mode 0 it stands still.
-fn old_count(full: bool, mode: u8) -> u8 {
-    if full {
-        return match mode {
-            0 => 2,
-            _ => 1,
-        };
+// What half a count means for the one before it: 0 there is none, 1 it runs on, 2 in mode 0 no pulse counts, 3 it did not run and stays the count to load: it was not taken
+// over, or GATE is low.
+fn old_count(c: Counter) -> u8 {
+    let mode = c.mode;
+    if !c.full {
+        return 0;
     }
-    0
+    match mode {
+        0 => 2,
+        1 => runs_on(c.pending),
+        5 => runs_on(c.pending),
+        _ => runs_on(c.pending | !c.gate),
+    }
+}
+
+fn runs_on(stays: bool) -> u8 {
+    match stays {
+        true => 3,
+        false => 1,
+    }
 }
 
 // When a count is taken over: 0 at the next pulse, 1 after GATE rose, 2 at the end of the old one, 3 at the end of half of it.
@@ -341,7 +352,7 @@ fn three(a: bool, b: bool, c: bool) -> u8 {
     a as u8 | (b as u8) << 1 | (c as u8) << 2
 }
 
-// A bit for each counter: its GATE, whether it will load, and whether a low GATE keeps it from counting: once it has a count, in any mode but 1 and 5.
+// A bit for each counter: its GATE, whether the next pulse loads it, and whether a low GATE keeps it from counting: once it has a count, in any mode but 1 and 5.
 struct Gates {
     high: u8,
     loads: u8,
@@ -354,12 +365,8 @@ fn gates_of(chips: Chips) -> Gates {
     let c2 = chips.counter(2);
     Gates {
         high: three(c0.gate, c1.gate, c2.gate),
-        loads: three(c0.trigger, c1.trigger, c2.trigger),
-        stands: three(
-            stands_still(c0.mode, c0.full, c0.half),
-            stands_still(c1.mode, c1.full, c1.half),
-            stands_still(c2.mode, c2.full, c2.half),
-        ),
+        loads: three(loads(c0), loads(c1), loads(c2)),
+        stands: three(stands_still(c0), stands_still(c1), stands_still(c2)),
     }
 }
 
@@ -368,9 +375,11 @@ fn gated(before: Chips, after: Chips) -> Text {
     let was = gates_of(before);
     let now = gates_of(after);
     let rose = now.high & !was.high;
+    let fell = was.high & !now.high & now.stands;
     let starts = rose & now.loads;
-    let stops = was.high & !now.high & now.stands;
+    let stops = fell & !now.loads;
     let goes = rose & !now.loads & now.stands;
+    let later = fell & now.loads;
     let f = [
         starts,
         which::how_many(starts),
@@ -378,8 +387,8 @@ fn gated(before: Chips, after: Chips) -> Text {
         which::how_many(stops),
         goes,
         which::how_many(goes),
-        0,
-        0,
+        later,
+        which::how_many(later),
         0,
         0,
         0,
@@ -392,13 +401,19 @@ fn gated(before: Chips, after: Chips) -> Text {
     sentences::happened(0x50, f, 0)
 }
 
-fn stands_still(mode: u8, full: bool, half: bool) -> bool {
+fn stands_still(c: Counter) -> bool {
+    let mode = c.mode;
     match mode {
         1 => false,
         5 => false,
-        0 => full & !half,
-        _ => full,
+        0 => c.full & !c.half,
+        _ => c.full,
     }
+}
+
+// A trigger loads in any mode; a count that waits to be taken over does with any GATE, but in modes 1 and 5 it waits for a trigger.
+fn loads(c: Counter) -> bool {
+    c.trigger | (c.pending & stands_still(c))
 }
 
 // The pulses of an advance that was done.
@@ -575,11 +590,40 @@ fn levels(before: Chips, after: Chips, r: [u8; 8]) -> Text {
         rises = 0;
     }
     let falls = outs_from(after, before);
-    let f = level_facts(before, after, rises, falls, told_levels(op, r[1], r[2]));
+    let told = told_levels(op, r[1], r[2], 0x00);
+    let slave_told = told_levels(op, r[1], r[2], 0x30);
+    let mut f = level_facts(before, after, rises, falls, told, slave_told);
+    if op == 3 {
+        let slave = r[1] == 3;
+        let early = early_lines(before, after, slave);
+        f[14] = early;
+        f[15] = which::how_many(early) | (slave as u8) << 2;
+    }
     sentences::happened(0x10, f, 0)
 }
 
-fn level_facts(before: Chips, after: Chips, rises: u8, falls: u8, told: u8) -> [u8; 16] {
+// The lines of a chip that rose before it was ready, and of which it keeps nothing, in edge trigger. OUT0 at line 0 of the master is no matter of the record's.
+fn early_lines(before: Chips, after: Chips, slave: bool) -> u8 {
+    let i = after.chip(slave);
+    let lines = after.lines_of(slave);
+    if i.stage == Icu::READY {
+        return 0;
+    }
+    let rose = lines & !before.lines_of(slave) & !i.irr(lines);
+    match slave {
+        true => rose,
+        false => rose & 0xfe,
+    }
+}
+
+fn level_facts(
+    before: Chips,
+    after: Chips,
+    rises: u8,
+    falls: u8,
+    told: u8,
+    slave_told: u8,
+) -> [u8; 16] {
     let was = look_at(before, false);
     let now = look_at(after, false);
     let slave_was = look_at(before, true);
@@ -588,8 +632,8 @@ fn level_facts(before: Chips, after: Chips, rises: u8, falls: u8, told: u8) -> [
     let slave = after.slave;
     let anew = now.irr & !was.irr & told;
     let gone = was.irr & !now.irr & told;
-    let slave_anew = slave_now.irr & !slave_was.irr & told;
-    let slave_gone = slave_was.irr & !slave_now.irr & told;
+    let slave_anew = slave_now.irr & !slave_was.irr & slave_told;
+    let slave_gone = slave_was.irr & !slave_now.irr & slave_told;
     [
         anew,
         which::how_many(anew),
@@ -616,11 +660,12 @@ fn level_facts(before: Chips, after: Chips, rises: u8, falls: u8, told: u8) -> [
     ]
 }
 
-// Records that change requests by themselves, a reset and IW1, leave no level to be told of: 0 for them, and 255 for others.
-fn told_levels(op: u8, port: u8, x: u8) -> u8 {
+// Records that change the requests of a chip by themselves, a reset and its IW1, leave no level of it to be told of: 0 for them, and 255 for others. The chip is known by its
+// first port.
+fn told_levels(op: u8, port: u8, x: u8, first: u8) -> u8 {
     match op {
         0 => 0,
-        1 => match which::master_port(port) {
+        1 => match port ^ first {
             0 => 255 * (1 - x / 16 % 2),
             _ => 255,
         },

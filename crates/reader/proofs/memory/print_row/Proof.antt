@@ -46,8 +46,8 @@ add-p c = search needs
 element-copy-out-x : tie.Need-element-copy-out-x Inv-loop μ-loop
 element-copy-out-x c = search needs
 
-element-copy-out-put-written : tie.Need-element-copy-out-put-written Inv-loop μ-loop
-element-copy-out-put-written c = search needs
+element-copy-out-mark : tie.Need-element-copy-out-mark Inv-loop μ-loop
+element-copy-out-mark c = search needs
 
 put-written-requires : tie.Need-put-written-requires Inv-loop μ-loop
 put-written-requires c κs = search needs
@@ -94,7 +94,7 @@ print-row-spec =
     loop-holds
     add-p
     element-copy-out-x
-    element-copy-out-put-written
+    element-copy-out-mark
     put-written-requires
     put-shown-requires
     add-i
