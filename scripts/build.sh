@@ -134,7 +134,7 @@ run_rt() { # LOG COMMAND..
     tell_progress
     [ "$ended_with" -eq 0 ] || {
         sed '/(unchanged since/d' "$log" | tail -n 20 >&2
-        fail "the proof failed; all that rt said is in $log"
+        fail "building failed; all that rt said is in $log"
     }
 }
 
