@@ -1,6 +1,6 @@
 # prove.sh ROOT CRATE..: proves these crates of a checkout, each as soon as all that it uses is proved, as many at a time as there are processors. (rt by itself goes
-# level by level, and waits for the last crate of each.) They stand in an order in which each comes after what it uses; what else they use is proved already. build.sh
-# starts it, has the lock, and tells how far it is.
+# level by level, and waits for the last crate of each.) Of those that can be proved the one with the longest source goes first, so that no long one is left for the end.
+# What else they use is proved already. build.sh starts it, has the lock, and tells how far it is.
 #
 # Each is proved by an rt of its own. In one folder two of them would write over each other's notes on the crates that both use, so each gets a room in target/run/rooms:
 # all in it is the checkout's, by links, but for the notes, target/log.
@@ -44,7 +44,8 @@ is_ready() { # CRATE
     done
 }
 
-unproved=$* left=$* running=0 failed='' status=0
+unproved=$(for crate in "$@"; do echo "$(cat "$root/crates/$crate"/src/*.rt | wc -c) $crate"; done | sort -rn | sed 's/.* //' | tr '\n' ' ')
+left=$unproved running=0 failed='' status=0
 while :; do
     later=
     for crate in $left; do

@@ -11,6 +11,8 @@ use reader::output;
 use reader::pieces;
 use reader::tally::Tally;
 use reader::usage;
+use sentences::bytes::Answer;
+use sentences::bytes::Record;
 use sentences::text;
 use sentences::text::Text;
 use words::chips;
@@ -34,13 +36,14 @@ pub struct Desk {
     // what is done with the lesson, and whether a guess is still asked for somewhere: then rows say no more than the answers
     mode: u8,
     plain: bool,
-    // the text, and its last line
+    // the text, and its last line; while its records are run no other is read
     lines: Lines,
     parsed: Parsed,
     pulses: u64,
     tally: Tally,
-    // the last line with a record or a check, and whether that check failed
-    checked: Parsed,
+    // what the last line with a record or a check expects, by its bits that are meant, and whether that failed
+    expected: [u8; 16],
+    mask: [u8; 16],
     wrong: bool,
     // of its records the next one, by its place in a text, and how often the line is still to be run
     at: usize,
@@ -65,7 +68,8 @@ impl Desk {
             parsed: Parsed::new(Parsed::EMPTY, 0),
             pulses: 0,
             tally: Tally::start(),
-            checked: Parsed::new(Parsed::EMPTY, 0),
+            expected: [0u8; 16],
+            mask: [0u8; 16],
             wrong: false,
             at: 0,
             left: 0,
@@ -89,7 +93,7 @@ impl Desk {
     }
 
     pub fn record(self, line: &[u8; 1000]) -> [u8; 8] {
-        filters::record_of(line, self.checked, self.at)
+        filters::record_of(line, self.parsed, self.at).bytes()
     }
 
     // What is due: the next record of the line under way, or what the next line asks for. What of it is not the board's is done.
@@ -132,7 +136,12 @@ impl Desk {
         let due = self.due;
         match due {
             PUT => {
-                memory::put(line, self.length(line), self.parsed, memory);
+                memory::put(
+                    line,
+                    notation::line::without_return(line, self.lines.held),
+                    self.parsed,
+                    memory,
+                );
                 self
             }
             COMPARE => self.compare(levels, line, memory),
@@ -164,14 +173,13 @@ impl Desk {
     fn comment(self, line: &[u8; 1000], p: Parsed) -> Desk {
         let mut next = self;
         if self.mode == usage::LISTING {
-            next.written = comments::print(line, self.length(line), p);
+            next.written = comments::print(
+                line,
+                notation::line::without_return(line, self.lines.held),
+                p,
+            );
         }
         next
-    }
-
-    // The length of the last line.
-    fn length(self, line: &[u8; 1000]) -> usize {
-        notation::line::without_return(line, self.lines.held)
     }
 
     // A line, with the words of it that are told.
@@ -199,18 +207,28 @@ impl Desk {
 
     // The records of a line; the first row is like no other.
     fn begin(self, p: Parsed) -> Desk {
-        let mut next = self;
-        next.checked = expected::meant(p, self.lines.place.chart);
+        let meant = expected::meant(p, self.lines.place.chart);
+        let mut next = self.with_check(meant);
+        next.parsed = meant;
         next.at = p.from;
         next.left = p.times;
         next.last = Text::new();
         next
     }
 
+    fn with_check(mut self, p: Parsed) -> Desk {
+        let expected = p.expected;
+        let mask = p.mask;
+        self.expected = expected;
+        self.mask = mask;
+        self
+    }
+
     // From reset, over zero bytes; a text says so.
     fn begin_anew(self, chart: bool, said: Text) -> Desk {
         let mut next = self;
-        next.checked = Parsed::new(Parsed::EMPTY, 0);
+        next.expected = [0u8; 16];
+        next.mask = [0u8; 16];
         next.charts = self.charts | chart;
         next.pulses = 0;
         next.written = said.print_line();
@@ -218,17 +236,8 @@ impl Desk {
         next
     }
 
-    fn print_row(self, asked: Text, answer: Text, levels: u8) -> bool {
-        text::print_row(
-            text::left(self.lines.line, self.pulses),
-            asked,
-            answer,
-            levels,
-        )
-    }
-
     // A guess is asked for: its row has a question mark, and nothing more is run. The others after it are named.
-    fn ask(self, chips: Chips, r: [u8; 8]) -> Desk {
+    fn ask(self, chips: Chips, r: Record) -> Desk {
         let t = self.tally;
         let mut next = self;
         next.tally = t.with_question();
@@ -240,7 +249,8 @@ impl Desk {
                 .print_line();
             return next;
         }
-        next.written = self.print_row(
+        next.written = text::print_row(
+            text::left(self.lines.line, self.pulses),
             chips::asked(chips, r, 0, true),
             Text::new().say(b"? put your guess in its place"),
             text::NO_LEVELS,
@@ -263,7 +273,13 @@ impl Desk {
     // Memory that is expected now.
     fn compare(self, levels: u8, line: &[u8; 1000], memory: &[u8; 65536]) -> Desk {
         let p = self.parsed;
-        let k = expected::first_apart(line, self.length(line), p, memory) % 65536;
+        let k = expected::first_apart(
+            line,
+            notation::line::without_return(line, self.lines.held),
+            p,
+            memory,
+        )
+            % 65536;
         let found = expected::found(p.number % 65536 + k, memory);
         self.tell_check(expected::quoted(line, p), k < p.length, found, levels)
     }
@@ -272,15 +288,19 @@ impl Desk {
     fn tell_check(self, said: Text, wrong: bool, found: Text, levels: u8) -> Desk {
         let t = self.tally;
         let p = self.parsed;
-        let mut next = self;
-        next.checked = p;
+        let mut next = self.with_check(p);
         next.tally = t.with_check(wrong);
         next.wrong = wrong;
         let answer = match wrong {
             true => Text::new().say(b"not so: ").and(found),
             false => Text::new().say(b"as expected"),
         };
-        next.written = self.print_row(Text::new().say(b"expect ").and(said), answer, levels);
+        next.written = text::print_row(
+            text::left(self.lines.line, self.pulses),
+            Text::new().say(b"expect ").and(said),
+            answer,
+            levels,
+        );
         next
     }
 
@@ -295,7 +315,9 @@ impl Desk {
                 next
             }
             Parsed::GUESS => {
-                next.written = expected::answer_guess(self.wrong, self.checked, p, said);
+                let expected = self.expected;
+                let mask = self.mask;
+                next.written = expected::answer_guess(self.wrong, expected, mask, p, said);
                 next
             }
             Parsed::CARD => {
@@ -313,18 +335,19 @@ impl Desk {
         self,
         before: Chips,
         after: Chips,
-        a: [u8; 16],
+        bytes: [u8; 16],
         line: &[u8; 1000],
         marks: &mut [u8; 65536],
     ) -> Desk {
         let lent = self.lent();
-        let unit = chips::unit_of(before, a, lent);
+        let a = Answer::of(bytes);
+        let unit = chips::unit_of(before.dma, a, lent);
         memory::mark(marks, unit.address, unit.written, lent);
-        let r = self.record(line);
-        let p = self.checked;
-        let wrong = expected::is_wrong(a, p);
+        let p = self.parsed;
+        let r = filters::record_of(line, p, self.at);
+        let wrong = expected::is_wrong(bytes, p);
         let t = self.tally;
-        let status = a[0];
+        let status = a.status;
         let mut next = self.after_record();
         next.tally = t.with_record(status, p.check, wrong)
             .with_lost(unit.way, unit.lost);
@@ -339,7 +362,7 @@ impl Desk {
 
     // The next record of the line: of its text, or from the first one once more.
     fn after_record(self) -> Desk {
-        let p = self.checked;
+        let p = self.parsed;
         let mut next = self;
         let at = self.at % 1000 + 1;
         next.at = at;
@@ -351,27 +374,20 @@ impl Desk {
     }
 
     // The row of a record, or in a repeat one more that is like the last one.
-    fn tell_record(
-        self,
-        before: Chips,
-        after: Chips,
-        r: [u8; 8],
-        a: [u8; 16],
-        other: Text,
-    ) -> Desk {
-        let p = self.checked;
-        let levels = a[3];
+    fn tell_record(self, before: Chips, after: Chips, r: Record, a: Answer, other: Text) -> Desk {
+        let p = self.parsed;
+        let levels = a.levels;
         let manner = Manner {
             plain: self.plain,
             other: self.wrong,
             lent: self.lines.place.lent,
-            open: open_to(r[1]),
+            open: open_to(r.port),
         };
-        let asked = chips::asked(before, r, a[0], self.plain);
+        let asked = chips::asked(before, r, a.status, self.plain);
         let answer = other
             .and(happened::words(before, after, r, a, manner))
             .and(expected::levels_now(self.wrong, p, levels));
-        let shape = shape_of(asked, answer, levels, byte_read(a[1], a[2], a[5]));
+        let shape = shape_of(asked, answer, levels, byte_read(a.op, a.byte, a.channel));
         let mut next = self;
         next.last = shape;
         if (p.times != 1) & shape.is_same(self.last) {
@@ -379,7 +395,13 @@ impl Desk {
             return next.end_line();
         }
         next.like = 0;
-        next.written = self.tell_like() && self.print_row(asked, answer, levels);
+        next.written = tell_like(self.like)
+            && text::print_row(
+                text::left(self.lines.line, self.pulses),
+                asked,
+                answer,
+                levels,
+            );
         next.end_line()
     }
 
@@ -388,16 +410,9 @@ impl Desk {
         let mut next = self;
         if self.left == 0 {
             next.like = 0;
-            next.written = self.written && self.tell_like();
+            next.written = self.written && tell_like(self.like);
         }
         next
-    }
-
-    fn tell_like(self) -> bool {
-        if self.like == 0 {
-            return true;
-        }
-        text::print_below(sentences::message(0x2b, self.like, 0))
     }
 
     // What stands below a lesson: the counts, and the memory. Answers how the program would end.
@@ -420,6 +435,14 @@ impl Desk {
     }
 }
 
+// The rows that were not shown.
+fn tell_like(like: u64) -> bool {
+    if like == 0 {
+        return true;
+    }
+    text::print_below(sentences::message(0x2b, like, 0))
+}
+
 // A lesson was checked: a bad line is there only if the file changed since. What is typed may be bad, and typed anew.
 fn first_line(mode: u8) -> Lines {
     if mode == usage::TRY {
@@ -429,10 +452,11 @@ fn first_line(mode: u8) -> Lines {
 }
 
 // The pulses of a record: those of an advance that was done.
-fn pulses_of(r: [u8; 8], status: u8) -> u32 {
+fn pulses_of(r: Record, status: u8) -> u32 {
+    let op = r.op;
     match status {
-        0 => match r[0] {
-            5 => happened::pulses_of(r) % 65536,
+        0 => match op {
+            5 => r.pulses() % 65536,
             _ => 0,
         },
         _ => 0,

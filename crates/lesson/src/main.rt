@@ -1,11 +1,11 @@
 // lesson FILE..: runs each lesson from reset and prints a row for each record; lesson listing FILE.. prints its comments too; lesson try takes lines as they are typed.
 // lesson assemble | list | explain [FILE]: filters, on a file or on standard input; lesson pieces FILE.. shows what they make of a lesson.
 // lesson card [PORT]: what each bit of a port means.
-mod course;
 mod run;
 
-use course::Course;
+use reader::course::Course;
 use reader::output;
+use reader::usage;
 
 // The arguments are walked twice: what is used wrongly is found before anything is run.
 fn main() {
@@ -29,7 +29,11 @@ fn take_arguments(checks: bool, n: usize) -> u8 {
         }
         i += 1;
     }
-    course.end_command().end_status(n)
+    end_arguments(course, n)
+}
+
+fn end_arguments(course: Course, n: usize) -> u8 {
+    run_without_file(course.end_command()).end_status(n)
 }
 
 fn take_argument(course: Course, i: usize) -> Course {
@@ -39,5 +43,22 @@ fn take_argument(course: Course, i: usize) -> Course {
         os::fail(b"lesson: an argument");
         return course.with(report::USAGE);
     }
-    course.take_word(&word[..n])
+    let next = course.take_word(&word[..n]);
+    if next.has_file {
+        return run_due(next, &word[..n]);
+    }
+    run_without_file(next)
+}
+
+fn run_without_file(course: Course) -> Course {
+    run_due(course, b"lesson: standard input")
+}
+
+// What is due on the board.
+fn run_due(course: Course, path: &[u8]) -> Course {
+    let due = course.due;
+    if due == usage::FILE {
+        return course;
+    }
+    course.end_text(run::run_text(due, course.fd, path))
 }

@@ -4,14 +4,7 @@ use board::Board;
 use board::Stepped;
 use desk::Desk;
 use reader::filters;
-use reader::output;
-use reader::usage;
 use words::chips::Chips;
-
-struct Round {
-    board: Board,
-    desk: Desk,
-}
 
 // What the desk is shown of a board.
 fn chips_of(b: Board) -> Chips {
@@ -42,54 +35,13 @@ fn least(a: usize, b: usize) -> usize
 }
 
 // One record, over so many bytes of the memory.
-fn step(board: Board, r: [u8; 8], memory: &mut [u8], length: usize) -> Stepped {
+fn step(board: Board, r: [u8; 8], memory: &mut [u8; 65536], length: usize) -> Stepped {
+    step_over(board, r, memory, length)
+}
+
+fn step_over(board: Board, r: [u8; 8], memory: &mut [u8], length: usize) -> Stepped {
     let n = least(length, memory.len());
     board.step(r, &mut memory[0..n])
-}
-
-// The record that is due.
-fn take_record(
-    board: Board,
-    desk: Desk,
-    line: &[u8; 1000],
-    memory: &mut [u8; 65536],
-    marks: &mut [u8; 65536],
-) -> Round {
-    let s = step(board, desk.record(line), memory, desk.lent() as usize);
-    let next = s.board;
-    let answer = s.answer;
-    Round {
-        board: next,
-        desk: desk.tell(chips_of(board), chips_of(next), answer, line, marks),
-    }
-}
-
-// What is due next, done.
-fn take(
-    round: Round,
-    fd: i32,
-    path: &[u8],
-    line: &mut [u8; 1000],
-    lump: &mut [u8; 65536],
-    memory: &mut [u8; 65536],
-    marks: &mut [u8; 65536],
-) -> Round {
-    let board = round.board;
-    let desk = round
-        .desk
-        .take(chips_of(board), fd, path, line, lump, memory, marks);
-    let due = desk.due;
-    match due {
-        desk::RECORD => take_record(board, desk, line, memory, marks),
-        desk::RESET => Round {
-            board: Board::reset(),
-            desk: desk,
-        },
-        _ => Round {
-            board: board,
-            desk: desk,
-        },
-    }
 }
 
 fn run(mode: u8, plain: bool, fd: i32, path: &[u8]) -> u8 {
@@ -97,14 +49,12 @@ fn run(mode: u8, plain: bool, fd: i32, path: &[u8]) -> u8 {
     let mut lump = [0u8; 65536];
     let mut memory = [0u8; 65536];
     let mut marks = [0u8; 65536];
-    let mut round = Round {
-        board: Board::reset(),
-        desk: Desk::start(mode, plain),
-    };
+    let mut board = Board::reset();
+    let mut desk = Desk::start(mode, plain);
     let mut turns = u64::MAX;
     while turns > 0 {
-        round = take(
-            round,
+        desk = desk.take(
+            chips_of(board),
             fd,
             path,
             &mut line,
@@ -112,7 +62,16 @@ fn run(mode: u8, plain: bool, fd: i32, path: &[u8]) -> u8 {
             &mut memory,
             &mut marks,
         );
-        let desk = round.desk;
+        if desk.due == desk::RECORD {
+            let s = step(board, desk.record(&line), &mut memory, desk.lent() as usize);
+            let answer = s.answer;
+            let next = s.board;
+            desk = desk.tell(chips_of(board), chips_of(next), answer, &line, &mut marks);
+            board = next;
+        }
+        if desk.due == desk::RESET {
+            board = Board::reset();
+        }
         if !desk.goes_on() {
             return desk.end(&memory, &marks);
         }
@@ -121,16 +80,8 @@ fn run(mode: u8, plain: bool, fd: i32, path: &[u8]) -> u8 {
     report::FAILED
 }
 
-// Lines as they are typed.
-pub fn run_typed(fd: i32, path: &[u8]) -> u8 {
-    if sentences::print_heads() {
-        return run(usage::TRY, false, fd, path);
-    }
-    output::fail()
-}
-
-pub fn run_file(mode: u8, fd: i32, path: &[u8]) -> u8 {
-    let ready = filters::prepare(fd, path);
+pub fn run_text(mode: u8, fd: i32, path: &[u8]) -> u8 {
+    let ready = filters::prepare(mode, fd, path);
     if ready.status != report::WELL {
         return ready.status;
     }

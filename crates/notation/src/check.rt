@@ -307,12 +307,10 @@ pub fn whole(mut p: Parsed) -> Parsed {
     p
 }
 
-// Whether two lines expect the same.
-pub fn is_same(a: Parsed, b: Parsed) -> bool {
+// Whether a line expects just this.
+pub fn is_same(expected: [u8; 16], mask: [u8; 16], p: Parsed) -> bool {
     let all = [255u8; 16];
-    let x = a.expected;
-    let y = b.expected;
-    let v = a.mask;
-    let w = b.mask;
-    is_met(x, y, all) && is_met(v, w, all)
+    let x = p.expected;
+    let y = p.mask;
+    is_met(expected, x, all) && is_met(mask, y, all)
 }

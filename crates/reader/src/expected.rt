@@ -101,11 +101,17 @@ pub fn found(at: u32, memory: &[u8; 65536]) -> Text {
 }
 
 // What is said to a guess, if the check above was just that and failed.
-pub fn answer_guess(wrong: bool, checked: Parsed, p: Parsed, said: Text) -> bool {
+pub fn answer_guess(
+    wrong: bool,
+    expected: [u8; 16],
+    mask: [u8; 16],
+    p: Parsed,
+    said: Text,
+) -> bool {
     if !wrong {
         return true;
     }
-    if !check::is_same(checked, p) {
+    if !check::is_same(expected, mask, p) {
         return true;
     }
     text::print_below(said)

@@ -4,9 +4,11 @@ use crate::lines;
 use crate::lines::Lines;
 use crate::output;
 use crate::pieces;
+use crate::usage;
 use notation::line::Parsed;
-use notation::listing;
 use notation::word;
+use sentences::bytes::Answer;
+use sentences::bytes::Record;
 use sentences::text;
 
 // What is done with the bytes of a tape, or of answers.
@@ -15,10 +17,11 @@ pub const LIST: u8 = 0;
 pub const EXPLAIN: u8 = 1;
 
 // The record of a line that comes at a place of its text; the text's characters are the device's bytes.
-pub fn record_of(line: &[u8; 1000], p: Parsed, at: usize) -> [u8; 8] {
-    let mut r = p.bytes;
+pub fn record_of(line: &[u8; 1000], p: Parsed, at: usize) -> Record {
+    let bytes = p.bytes;
+    let mut r = Record::of(bytes);
     if at < p.to {
-        r[2] = word::byte_at(line, at);
+        r.byte = word::byte_at(line, at);
     }
     r
 }
@@ -77,33 +80,41 @@ fn check(fd: i32, path: &[u8]) -> Checked {
         questions = count(questions, t.parsed.check == Parsed::ASKED);
         turns -= 1;
     }
-    failed()
+    ended(report::FAILED)
 }
 
-// A lesson is read twice: here to see that each line is good, and then to run it. Its title is printed if it is.
-pub fn prepare(fd: i32, path: &[u8]) -> Checked {
+// A lesson is read twice: here to see that each line is good, and then to run it. Its title is printed if it is. Lines that are typed have no title.
+pub fn prepare(mode: u8, fd: i32, path: &[u8]) -> Checked {
+    if mode == usage::TRY {
+        return printed(sentences::print_heads(), 0);
+    }
     if !lines::rewind(fd, path) {
-        return failed();
+        return ended(report::FAILED);
     }
     let checked = check(fd, path);
     if checked.status != report::WELL {
         return checked;
     }
     if !lines::rewind(fd, path) {
-        return failed();
+        return ended(report::FAILED);
     }
-    if output::print_title(path) {
-        return checked;
-    }
-    Checked {
-        status: output::fail(),
-        questions: 0,
-    }
+    printed(output::print_title(path), checked.questions)
 }
 
-fn failed() -> Checked {
+// What stands above the rows is printed, or could not be.
+fn printed(well: bool, questions: u64) -> Checked {
+    if well {
+        return Checked {
+            status: report::WELL,
+            questions: questions,
+        };
+    }
+    ended(output::fail())
+}
+
+fn ended(status: u8) -> Checked {
     Checked {
-        status: report::FAILED,
+        status: status,
         questions: 0,
     }
 }
@@ -183,7 +194,8 @@ fn hold_once(line: &[u8; 1000], p: Parsed, tape: Tape, store: &mut [u8; 65536]) 
     let mut next = tape;
     let mut at = p.from;
     while at < 1000 {
-        next.file = held::hold_record(next.file, next.records, record_of(line, p, at), store);
+        let r = record_of(line, p, at);
+        next.file = held::hold_record(next.file, next.records, r.bytes(), store);
         next.records = text::more(next.records);
         at += 1;
         if p.to <= at {
@@ -232,12 +244,11 @@ fn take_byte(pieces: Pieces, x: u8) -> Pieces {
 }
 
 fn print_piece(mode: u8, number: u64, kept: [u8; 16]) -> bool {
+    let answer = Answer::of(kept);
     if mode == LIST {
-        return sentences::asked(listing::sentence(kept), kept)
-            .put(b'\n')
-            .print();
+        return pieces::line_of(answer.record()).put(b'\n').print();
     }
-    pieces::print_answer(number, kept)
+    pieces::print_answer(number, answer)
 }
 
 fn take_bytes(pieces: Pieces, lump: &[u8]) -> Pieces {

@@ -12,6 +12,8 @@
 //   {BSWnone|one|two}  the words for that number, and nothing where there are none; a choice holds no other choice
 //   &0 and &1  two numbers beside the facts
 //   ^     a bar, which a sentence cannot have by itself
+pub mod bytes;
+pub mod listing;
 pub mod text;
 pub mod which;
 
@@ -325,7 +327,24 @@ pub fn bad_line(n: u8, line: u64, column: u64, found: [u8; 8]) -> Text {
 30 :&0:&1: the answer to this record has no such thing
 ",
         n,
-        facts(found, 0, 0, 0, 0),
+        [
+            found[0],
+            found[1],
+            found[2],
+            0,
+            0,
+            0,
+            0,
+            0,
+            0,
+            0,
+            0,
+            0,
+            0,
+            0,
+            0,
+            0,
+        ],
         line,
         column,
     )
@@ -400,28 +419,6 @@ pub fn print_usage() {
 With no FILE, try, assemble, list and explain take standard input.
 ",
     );
-}
-
-// A record and four facts after it.
-pub fn facts(r: [u8; 8], f8: u8, f9: u8, fa: u8, fb: u8) -> [u8; 16] {
-    [
-        r[0],
-        r[1],
-        r[2],
-        r[3],
-        r[4],
-        r[5],
-        r[6],
-        r[7],
-        f8,
-        f9,
-        fa,
-        fb,
-        0,
-        0,
-        0,
-        0,
-    ]
 }
 
 // Where a sentence starts, past its number, if its line is the one at i; else 0.

@@ -1,4 +1,5 @@
 // Which sentence says what an answer is, and the facts of a unit.
+use crate::bytes::Answer;
 use crate::text::Text;
 
 // Which way a unit goes, as D3-D2 of its channel's mode say it, with bit 2 where it is a word, as D0 says.
@@ -15,29 +16,30 @@ pub fn way(mode: u8) -> u8 {
 }
 
 // An answer by itself: which way a unit went, and which port was read, is not known. A unit with an upper byte is a word; one without may be.
-pub fn words_alone(a: [u8; 16]) -> Text {
-    let status = a[0];
-    if status != 0 {
-        return crate::answered(0x20 + capped(status) % 8, a, 0);
-    }
-    let sentence = done(a[1], a[4], 0xff);
-    match a[1] {
-        6 => alone(a, sentence, a[13]),
-        _ => crate::answered(sentence, a, 0),
+pub fn words_alone(a: Answer) -> Text {
+    let status = a.status;
+    let op = a.op;
+    match status {
+        0 => match op {
+            6 => unit_alone(a),
+            _ => crate::answered(done(op, a.kind, 0xff), a.facts(), 0),
+        },
+        _ => crate::answered(0x20 + capped(status) % 8, a.facts(), 0),
     }
 }
 
-fn alone(a: [u8; 16], sentence: u8, upper: u8) -> Text {
+fn unit_alone(a: Answer) -> Text {
+    let upper = a.upper;
     let way = match upper {
         0 => UNKNOWN,
         _ => UNKNOWN + WORD,
     };
-    crate::answered(sentence, unit(a, way, 0, 0, way), 0)
+    crate::answered(done(6, a.kind, 0), unit(a, way, 0, 0, way), 0)
 }
 
 // The operation that an answer is to.
-pub fn operation(a: [u8; 16]) -> Text {
-    crate::answered(0x10 + capped(a[1]) % 8, a, 0)
+pub fn operation(a: Answer) -> Text {
+    crate::answered(0x10 + capped(a.op) % 8, a.facts(), 0)
 }
 
 fn capped(x: u8) -> u8 {
@@ -95,22 +97,32 @@ fn read(port: u8) -> u8 {
 
 // The facts of a unit that goes a way, by its answer: beside them an upper byte that was not used, what is said of the units to come, and the way that is told where it is past
 // the end of memory. The end, the free bus and the end of memory are said by a 1 in the answer, and by nothing else.
-pub fn unit(a: [u8; 16], way: u8, upper: u8, rest: u8, lost: u8) -> [u8; 16] {
-    let mut f = a;
-    let outside = (a[12] == 1) as u8;
-    let odd = way / WORD % 2 & a[8] % 2;
+pub fn unit(a: Answer, way: u8, upper: u8, rest: u8, lost: u8) -> [u8; 16] {
+    let outside = (a.outside == 1) as u8;
+    let odd = way / WORD % 2 & a.address0 % 2;
     let marks = odd | outside << 1;
-    f[3] = upper;
-    f[4] = way;
-    f[7] = (a[7] == 1) as u8;
-    f[12] = (a[6] == 1) as u8 | ((marks != 0) as u8) << 2;
-    f[6] = rest;
-    f[14] = marks;
-    f[15] = match outside {
+    let told = match outside {
         1 => lost,
         _ => 0,
     };
-    f
+    [
+        a.status,
+        a.op,
+        a.byte,
+        upper,
+        way,
+        a.channel,
+        rest,
+        (a.free == 1) as u8,
+        a.address0,
+        a.address1,
+        a.address2,
+        a.address3,
+        (a.last == 1) as u8 | ((marks != 0) as u8) << 2,
+        a.upper,
+        marks,
+        told,
+    ]
 }
 
 // The bytes of a unit.

@@ -1,16 +1,20 @@
 // Which sentence says what a record asks for.
+use sentences::bytes::Record;
 use sentences::which;
 
-// By the facts of a record and of the board before it.
-pub fn sentence(f: [u8; 16]) -> u8 {
-    match f[0] {
+// By a record, and the stage of the interrupt chip that its port is of.
+pub fn sentence(r: Record, stage: u8) -> u8 {
+    let op = r.op;
+    let upper = r.upper;
+    let port = which::master_port(r.port);
+    match op {
         0 => 0x13,
-        1 => write(which::master_port(f[1]), f[2], f[12]),
-        2 => read(which::master_port(f[1])),
+        1 => write(port, r.byte, stage),
+        2 => read(port),
         3 => 0x15,
         4 => 0x14,
-        5 => advance(f[4], f[5]),
-        _ => match f[3] {
+        5 => advance(r.low, r.high),
+        _ => match upper {
             0 => 0x12,
             _ => 0x16,
         },

@@ -4,7 +4,9 @@ use crate::refused;
 use dma::Channel;
 use dma::Dma;
 use icu::Icu;
-use notation::listing;
+use sentences::bytes::Answer;
+use sentences::bytes::Record;
+use sentences::listing;
 use sentences::text::Text;
 use sentences::which;
 use timer::Counter;
@@ -55,45 +57,42 @@ impl Chips {
             false => outs,
         }
     }
+}
 
-    pub fn counter(self, k: u8) -> Counter {
-        let t = self.timer;
-        let i = (k % 3) as usize;
-        t.counters[i]
+pub fn counter(t: Timer, k: u8) -> Counter {
+    let i = (k % 3) as usize;
+    t.counters[i]
+}
+
+pub fn channel(d: Dma, k: u8) -> Channel {
+    let i = (k % 4) as usize;
+    d.channels[i]
+}
+
+// The count or the address that a port shows a byte of, or takes one: of the selected channel, its base or where it stands.
+pub fn register(d: Dma, port: u8) -> u32 {
+    let c = channel(d, d.selected);
+    let mut span = c.current;
+    if d.base {
+        span = c.base;
     }
-
-    pub fn channel(self, k: u8) -> Channel {
-        let d = self.dma;
-        let i = (k % 4) as usize;
-        d.channels[i]
+    if port < 0x24 {
+        return span.count as u32;
     }
+    span.address
+}
 
-    // The count or the address that a port shows a byte of, or takes one: of the selected channel, its base or where it stands.
-    pub fn register(self, port: u8) -> u32 {
-        let d = self.dma;
-        let c = self.channel(d.selected);
-        let mut span = c.current;
-        if d.base {
-            span = c.base;
-        }
-        if port < 0x24 {
-            return span.count as u32;
-        }
-        span.address
-    }
-
-    pub fn marked(self) -> Marked {
-        let c0 = self.channel(0);
-        let c1 = self.channel(1);
-        let c2 = self.channel(2);
-        let c3 = self.channel(3);
-        Marked {
-            masked: c0.masked as u8
-                | (c1.masked as u8) << 1
-                | (c2.masked as u8) << 2
-                | (c3.masked as u8) << 3,
-            wide: c0.mode % 2 | c1.mode % 2 << 1 | c2.mode % 2 << 2 | c3.mode % 2 << 3,
-        }
+pub fn marks_of(d: Dma) -> Marked {
+    let c0 = channel(d, 0);
+    let c1 = channel(d, 1);
+    let c2 = channel(d, 2);
+    let c3 = channel(d, 3);
+    Marked {
+        masked: c0.masked as u8
+            | (c1.masked as u8) << 1
+            | (c2.masked as u8) << 2
+            | (c3.masked as u8) << 3,
+        wide: c0.mode % 2 | c1.mode % 2 << 1 | c2.mode % 2 << 2 | c3.mode % 2 << 3,
     }
 }
 
@@ -115,23 +114,23 @@ pub struct Manner {
 
 // What a record asks for: what a byte means depends on the chips. A record that is refused with 2 asks for nothing, and stands in the notation. Which byte of a count is read
 // goes unsaid where the row is plain.
-pub fn asked(chips: Chips, r: [u8; 8], status: u8, plain: bool) -> Text {
-    let op = r[0];
-    let port = r[1];
+pub fn asked(chips: Chips, r: Record, status: u8, plain: bool) -> Text {
+    let op = r.op;
+    let port = r.port;
     let d = chips.dma;
-    let c = chips.counter(port % 4);
+    let c = counter(chips.timer, port % 4);
     let slave = is_slave(port);
     let i = chips.chip(slave);
     let hidden = plain & (op == 2);
     let f = [
         op,
         port,
-        r[2],
-        r[3],
-        r[4],
-        r[5],
-        r[6],
-        r[7],
+        r.byte,
+        r.upper,
+        r.low,
+        r.high,
+        r.third,
+        r.fourth,
         d.selected,
         d.base as u8,
         asked::place(hidden, op, c.format, c.half, c.second),
@@ -142,32 +141,32 @@ pub fn asked(chips: Chips, r: [u8; 8], status: u8, plain: bool) -> Text {
         0,
     ];
     let sentence = match status {
-        2 => listing::sentence(f),
-        _ => asked::sentence(f),
+        2 => listing::sentence(r),
+        _ => asked::sentence(r, i.stage),
     };
     sentences::asked(sentence, f)
 }
 
 // What was read, moved or answered, and for a refusal a sentence that helps. `before` are the chips before the record, `after` those after it.
-pub fn answered(before: Chips, after: Chips, r: [u8; 8], a: [u8; 16], m: Manner) -> Text {
-    let status = a[0];
-    if status != 0 {
-        return refusal(before, r, status, m.open);
-    }
-    match a[1] {
-        2 => read(before, after, r[1], a[2], m),
-        4 => acknowledged(before, after, a, m.plain),
-        6 => cycled(before, after, r[3], a, m),
-        _ => Text::new(),
+pub fn answered(before: Chips, after: Chips, r: Record, a: Answer, m: Manner) -> Text {
+    let status = a.status;
+    let op = a.op;
+    match status {
+        0 => match op {
+            2 => read(before.dma, before.timer, after.timer, r.port, a.byte, m),
+            4 => acknowledged(before, after, a, m.plain),
+            6 => cycled(before.dma, after.dma, r.upper, a, m),
+            _ => Text::new(),
+        },
+        _ => refusal(before, r, status, m.open),
     }
 }
 
 // What is read of a port: its byte in words, with the register that the byte is of.
-fn read(before: Chips, after: Chips, port: u8, byte: u8, m: Manner) -> Text {
-    let d = before.dma;
-    let n = before.register(port);
-    let was = before.counter(port % 4);
-    let now = after.counter(port % 4);
+fn read(d: Dma, before: Timer, after: Timer, port: u8, byte: u8, m: Manner) -> Text {
+    let n = register(d, port);
+    let was = counter(before, port % 4);
+    let now = counter(after, port % 4);
     let place = (now.second & !m.plain) as u8 | ((was.latched & !m.plain) as u8) << 1;
     let f = [
         0,
@@ -202,7 +201,7 @@ fn read_mark(port: u8, counter: u8, channel: u8, byte: u8) -> u8 {
 }
 
 // The bytes of an acknowledge, and what there is to say of them: that the slave gave them, of either chip why its INT is low, and the levels in service.
-fn acknowledged(before: Chips, after: Chips, a: [u8; 16], plain: bool) -> Text {
+fn acknowledged(before: Chips, after: Chips, a: Answer, plain: bool) -> Text {
     let passed = before.passes;
     let giver = before.chip(passed);
     let lines = before.lines_of(passed);
@@ -210,12 +209,12 @@ fn acknowledged(before: Chips, after: Chips, a: [u8; 16], plain: bool) -> Text {
     let int = giver.int(lines);
     let highest = icu::highest(asking, giver.lowest);
     let mut f = a;
-    f[14] = 1;
-    f[15] = match int {
+    f.first_fact = 1;
+    f.second_fact = match int {
         true => highest,
         false => 7,
     };
-    let bytes = sentences::answered(which::done(4, a[4], 0), f, 0);
+    let bytes = sentences::answered(which::done(4, a.kind, 0), f.facts(), 0);
     if plain {
         return bytes;
     }
@@ -229,7 +228,9 @@ fn acknowledged(before: Chips, after: Chips, a: [u8; 16], plain: bool) -> Text {
             passed,
         ),
     };
-    bytes.and(said).and(in_service(after, passed))
+    let i = after.icu;
+    let s = after.slave;
+    bytes.and(said).and(in_service(i.isr, s.isr, passed))
 }
 
 // What follows the bytes of an acknowledge: the level that the slave gives, or why the INT of the chip that gave them is low.
@@ -258,17 +259,15 @@ fn remark(sentence: u8, level: u8, service: u8, slave: bool) -> Text {
     )
 }
 
-fn in_service(after: Chips, passed: bool) -> Text {
-    let i = after.icu;
-    let s = after.slave;
+fn in_service(isr: u8, slave_isr: u8, passed: bool) -> Text {
     sentences::happened(
         0x28,
         [
             0,
             passed as u8,
-            s.isr,
+            slave_isr,
             0,
-            i.isr,
+            isr,
             0,
             0,
             0,
@@ -286,18 +285,17 @@ fn in_service(after: Chips, passed: bool) -> Text {
 }
 
 // What a bus cycle did, where, and what it left to do; or why it did nothing.
-fn cycled(before: Chips, after: Chips, upper: u8, a: [u8; 16], m: Manner) -> Text {
-    let kind = a[4];
+fn cycled(before: Dma, after: Dma, upper: u8, a: Answer, m: Manner) -> Text {
+    let kind = a.kind;
     match kind {
-        0 => idle(before),
+        0 => idle(before.requests, before.disabled),
         2 => moved_words(before, after, upper, a, m),
-        _ => sentences::answered(which::done(6, kind, 0), a, 0),
+        _ => sentences::answered(which::done(6, kind, 0), a.facts(), 0),
     }
 }
 
 // Why a cycle did nothing.
-fn idle(before: Chips) -> Text {
-    let d = before.dma;
+fn idle(requests: u8, disabled: bool) -> Text {
     let f = [
         0,
         0,
@@ -311,9 +309,9 @@ fn idle(before: Chips) -> Text {
         0,
         0,
         0,
-        d.requests,
-        asking(d.requests, d.disabled),
-        d.disabled as u8,
+        requests,
+        asking(requests, disabled),
+        disabled as u8,
         0,
     ];
     sentences::answered(0x06, f, 0)
@@ -330,18 +328,18 @@ fn asking(requests: u8, disabled: bool) -> u8 {
     }
 }
 
-fn moved_words(before: Chips, after: Chips, upper: u8, a: [u8; 16], m: Manner) -> Text {
-    let k = a[5];
-    let c = before.channel(k);
+fn moved_words(before: Dma, after: Dma, upper: u8, a: Answer, m: Manner) -> Text {
+    let k = a.channel;
+    let c = channel(before, k);
     let way = which::way(c.mode);
-    let next = after.channel(k);
+    let next = channel(after, k);
     let left = next.current;
     let f = which::unit(
         a,
         way,
         upper,
-        rest(a[6], c.mode, m.plain),
-        half_lost(way, lost(sentences::four(a, 8), way, m.lent)),
+        rest(a.last, c.mode, m.plain),
+        half_lost(way, lost(a.address(), way, m.lent)),
     );
     let said = sentences::answered(0x09, f, left.count as u64 + 1);
     // the device's upper byte was not used: it had one, and the unit is a byte to memory
@@ -395,12 +393,12 @@ pub struct Unit {
     pub lost: u8,
 }
 
-pub fn unit_of(chips: Chips, a: [u8; 16], lent: u32) -> Unit {
-    let c = chips.channel(a[5]);
+pub fn unit_of(before: Dma, a: Answer, lent: u32) -> Unit {
+    let c = channel(before, a.channel);
     let way = which::way(c.mode);
-    let address = sentences::four(a, 8);
+    let address = a.address();
     // status 0, operation 6, kind 2
-    if a[0] | (a[1] ^ 6) | (a[4] ^ 2) != 0 {
+    if a.status | (a.op ^ 6) | (a.kind ^ 2) != 0 {
         return Unit {
             address: 0,
             way: 0,
@@ -421,10 +419,10 @@ pub fn unit_of(chips: Chips, a: [u8; 16], lent: u32) -> Unit {
 }
 
 // Why a record was refused, worked out from the record and the chips before it.
-fn refusal(chips: Chips, r: [u8; 8], status: u8, open: u8) -> Text {
-    let op = r[0];
-    let port = r[1];
-    let x = r[2];
+fn refusal(chips: Chips, r: Record, status: u8, open: u8) -> Text {
+    let op = r.op;
+    let port = r.port;
+    let x = r.byte;
     let d = chips.dma;
     let m = chips.icu;
     let master = set_up(m);
@@ -433,10 +431,10 @@ fn refusal(chips: Chips, r: [u8; 8], status: u8, open: u8) -> Text {
     let needed = (op == 4) & (m.stage == Icu::READY);
     let slave = needed | is_slave(port);
     let i = chips.chip(slave);
-    let c = chips.counter(port % 4);
-    let marked = chips.marked();
+    let c = counter(chips.timer, port % 4);
+    let marked = marks_of(d);
     let serving = d.serving;
-    let channel = match serving {
+    let owner = match serving {
         true => d.channel,
         false => marked.wide,
     };
@@ -444,13 +442,13 @@ fn refusal(chips: Chips, r: [u8; 8], status: u8, open: u8) -> Text {
         op,
         port,
         x,
-        r[3],
-        r[4],
-        r[5],
-        r[6],
-        r[7],
+        r.upper,
+        r.low,
+        r.high,
+        r.third,
+        r.fourth,
         status,
-        channel,
+        owner,
         (c.format == Counter::BOTH) as u8,
         i.stage,
         slave as u8,
@@ -458,10 +456,10 @@ fn refusal(chips: Chips, r: [u8; 8], status: u8, open: u8) -> Text {
         other,
         needed as u8,
     ];
-    let zero = listing::is_zero_later(f);
+    let zero = listing::is_zero_later(r);
     let sentence = match status {
         1 => 0x10,
-        2 => refused::malformed(op, port, x, zero, open, r[6] | r[7]),
+        2 => refused::malformed(op, port, x, zero, open, r.third | r.fourth),
         3 => refused::early(op, which::master_port(port), i.stage, master ^ other),
         4 => refused::unbuilt(which::master_port(port), x),
         _ => 0x60,

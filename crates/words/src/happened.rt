@@ -2,15 +2,19 @@
 use crate::chips;
 use crate::chips::Chips;
 use crate::chips::Manner;
+use dma::Dma;
 use icu::Icu;
+use sentences::bytes::Answer;
+use sentences::bytes::Record;
 use sentences::text::Text;
 use sentences::which;
 use timer::Counter;
+use timer::Timer;
 
 // What an answer says, and what came of its record besides; `done` where there is nothing to be said.
-pub fn words(before: Chips, after: Chips, r: [u8; 8], a: [u8; 16], m: Manner) -> Text {
+pub fn words(before: Chips, after: Chips, r: Record, a: Answer, m: Manner) -> Text {
     let said = chips::answered(before, after, r, a, m);
-    if a[0] != 0 {
+    if a.status != 0 {
         return said;
     }
     if m.plain {
@@ -32,48 +36,44 @@ pub fn words(before: Chips, after: Chips, r: [u8; 8], a: [u8; 16], m: Manner) ->
 }
 
 // A text, or where there is none what was done: of an advance the rises.
-fn or_done(said: Text, r: [u8; 8], a: [u8; 16]) -> Text {
+fn or_done(said: Text, r: Record, a: Answer) -> Text {
     if said.n == 0 {
-        return sentences::answered(which::done(r[0], a[4], 0), a, 0);
+        return sentences::answered(which::done(r.op, a.kind, 0), a.facts(), 0);
     }
     said
 }
 
 // What is the record's own matter.
-fn first_words(before: Chips, after: Chips, r: [u8; 8]) -> Text {
-    let op = r[0];
-    if op == 5 {
-        return advanced(before, after, pulses_of(r));
-    }
-    let port = r[1];
+fn first_words(before: Chips, after: Chips, r: Record) -> Text {
+    let op = r.op;
+    let port = r.port;
     match op {
-        1 => written(before, after, port, r[2]),
+        1 => written(before, after, port, r.byte),
         3 => match port {
-            1 => gated(before, after),
-            2 => requested(after),
+            1 => gated(before.timer, after.timer),
+            2 => requested(after.dma),
             _ => Text::new(),
         },
+        5 => advanced(before.timer, after.timer, r.pulses()),
         _ => Text::new(),
     }
 }
 
 fn written(before: Chips, after: Chips, port: u8, x: u8) -> Text {
     let place = which::master_port(port);
+    let slave = chips::is_slave(port);
     match place / 16 {
-        0 => interrupt_words(before, after, port, x),
-        1 => counter_words(before, after, place, x),
-        _ => dma_words(after, place, x),
+        0 => interrupt_words(before.chip(slave), after.chip(slave), port, x),
+        1 => counter_words(before.timer, after.timer, place, x),
+        _ => dma_words(after.dma, place, x),
     }
 }
 
-fn interrupt_words(before: Chips, after: Chips, port: u8, x: u8) -> Text {
-    let slave = chips::is_slave(port);
-    let was = before.chip(slave);
-    let now = after.chip(slave);
+fn interrupt_words(was: Icu, now: Icu, port: u8, x: u8) -> Text {
     let finished = was.isr & !now.isr;
     let f = [
         x,
-        slave as u8,
+        chips::is_slave(port) as u8,
         finished,
         which::how_many(finished),
         now.isr,
@@ -140,10 +140,10 @@ fn counter_of(port: u8, x: u8) -> u8 {
     }
 }
 
-fn counter_words(before: Chips, after: Chips, port: u8, x: u8) -> Text {
+fn counter_words(before: Timer, after: Timer, port: u8, x: u8) -> Text {
     let k = counter_of(port, x);
-    let was = before.counter(k);
-    let now = after.counter(k);
+    let was = chips::counter(before, k);
+    let now = chips::counter(after, k);
     if port == 0x13 {
         return four_facts(
             control(x, was.latched),
@@ -258,7 +258,7 @@ fn later(pending: bool, gate: bool, mode: u8) -> u8 {
     }
 }
 
-fn dma_words(after: Chips, port: u8, x: u8) -> Text {
+fn dma_words(after: Dma, port: u8, x: u8) -> Text {
     match port {
         0x20 => sentences::happened(0x43 * (x % 2), [0u8; 16], 0),
         0x22 => units_words(after, 0),
@@ -273,8 +273,8 @@ fn dma_words(after: Chips, port: u8, x: u8) -> Text {
 }
 
 // The count of the selected channel, and with its high byte how many units it stands for.
-fn units_words(after: Chips, whole: u8) -> Text {
-    let count = after.register(0x22);
+fn units_words(after: Dma, whole: u8) -> Text {
+    let count = chips::register(after, 0x22);
     let units = count % 65536 + 1;
     sentences::happened(
         0x40,
@@ -300,8 +300,8 @@ fn units_words(after: Chips, whole: u8) -> Text {
     )
 }
 
-fn address_words(after: Chips) -> Text {
-    let a = after.register(0x24);
+fn address_words(after: Dma) -> Text {
+    let a = chips::register(after, 0x24);
     four_facts(
         0x41,
         0,
@@ -313,9 +313,8 @@ fn address_words(after: Chips) -> Text {
 }
 
 // The channels that ask: those that may be served, and those that are masked.
-fn requested(after: Chips) -> Text {
-    let d = after.dma;
-    let marked = after.marked();
+fn requested(d: Dma) -> Text {
+    let marked = chips::marks_of(d);
     let free = d.requests & !marked.masked;
     let held = d.requests & marked.masked;
     let f = [
@@ -359,10 +358,10 @@ struct Gates {
     stands: u8,
 }
 
-fn gates_of(chips: Chips) -> Gates {
-    let c0 = chips.counter(0);
-    let c1 = chips.counter(1);
-    let c2 = chips.counter(2);
+fn gates_of(t: Timer) -> Gates {
+    let c0 = chips::counter(t, 0);
+    let c1 = chips::counter(t, 1);
+    let c2 = chips::counter(t, 2);
     Gates {
         high: three(c0.gate, c1.gate, c2.gate),
         loads: three(loads(c0), loads(c1), loads(c2)),
@@ -371,7 +370,7 @@ fn gates_of(chips: Chips) -> Gates {
 }
 
 // GATE of some counters rose or fell.
-fn gated(before: Chips, after: Chips) -> Text {
+fn gated(before: Timer, after: Timer) -> Text {
     let was = gates_of(before);
     let now = gates_of(after);
     let rose = now.high & !was.high;
@@ -416,13 +415,8 @@ fn loads(c: Counter) -> bool {
     c.trigger | (c.pending & stands_still(c))
 }
 
-// The pulses of an advance that was done.
-pub fn pulses_of(r: [u8; 8]) -> u32 {
-    r[4] as u32 | (r[5] as u32) << 8
-}
-
 // At which pulses each OUT rose, and where the counters are.
-fn advanced(before: Chips, after: Chips, pulses: u32) -> Text {
+fn advanced(before: Timer, after: Timer, pulses: u32) -> Text {
     let rises = rises_of(before, 0, pulses)
         .and(rises_of(before, 1, pulses))
         .and(rises_of(before, 2, pulses));
@@ -435,8 +429,8 @@ fn advanced(before: Chips, after: Chips, pulses: u32) -> Text {
     rises.and(values)
 }
 
-fn value_of(chips: Chips, k: u8) -> Text {
-    let c = chips.counter(k);
+fn value_of(t: Timer, k: u8) -> Text {
+    let c = chips::counter(t, k);
     if 5 < c.mode {
         return Text::new();
     }
@@ -465,8 +459,8 @@ fn value_of(chips: Chips, k: u8) -> Text {
 }
 
 // The first three pulses of these that made an OUT rise, and how many others did.
-fn rises_of(chips: Chips, k: u8, pulses: u32) -> Text {
-    let c = chips.counter(k);
+fn rises_of(t: Timer, k: u8, pulses: u32) -> Text {
+    let c = chips::counter(t, k);
     let ran = c.run(pulses);
     let all = ran.rises;
     if all == 0 {
@@ -536,9 +530,7 @@ struct Seen {
     int: bool,
 }
 
-fn look_at(chips: Chips, slave: bool) -> Seen {
-    let i = chips.chip(slave);
-    let lines = chips.lines_of(slave);
+fn look_at(i: Icu, lines: u8) -> Seen {
     Seen {
         irr: i.irr(lines),
         int: i.int(lines),
@@ -573,40 +565,28 @@ fn change(was: bool, now: bool, anew: u8, stage: u8, asked: u8) -> u8 {
 }
 
 // The OUTs that went from one level to the other.
-fn outs_from(was: Chips, now: Chips) -> u8 {
-    let t = was.timer;
-    let u = now.timer;
-    u.outs() & !t.outs()
+fn outs_from(was: Timer, now: Timer) -> u8 {
+    now.outs() & !was.outs()
 }
 
 // OUT, but its rises in pulses, which were told; the levels that ask anew or no more; INT. An acknowledge tells of these itself.
-fn levels(before: Chips, after: Chips, r: [u8; 8]) -> Text {
-    let op = r[0];
+fn levels(before: Chips, after: Chips, r: Record) -> Text {
+    let op = r.op;
     if op == 4 {
         return Text::new();
     }
-    let mut rises = outs_from(before, after);
+    let mut rises = outs_from(before.timer, after.timer);
     if op == 5 {
         rises = 0;
     }
-    let falls = outs_from(after, before);
-    let told = told_levels(op, r[1], r[2], 0x00);
-    let slave_told = told_levels(op, r[1], r[2], 0x30);
-    let mut f = level_facts(before, after, rises, falls, told, slave_told);
-    if op == 3 {
-        let slave = r[1] == 3;
-        let early = early_lines(before, after, slave);
-        f[14] = early;
-        f[15] = which::how_many(early) | (slave as u8) << 2;
-    }
-    sentences::happened(0x10, f, 0)
+    sentences::happened(0x10, level_facts(before, after, rises, r), 0)
 }
 
 // The lines of a chip that rose before it was ready, and of which it keeps nothing, in edge trigger. OUT0 at line 0 of the master is no matter of the record's.
-fn early_lines(before: Chips, after: Chips, slave: bool) -> u8 {
+fn early_lines(before: Chips, after: Chips, op: u8, slave: bool) -> u8 {
     let i = after.chip(slave);
     let lines = after.lines_of(slave);
-    if i.stage == Icu::READY {
+    if (op != 3) | (i.stage == Icu::READY) {
         return 0;
     }
     let rose = lines & !before.lines_of(slave) & !i.irr(lines);
@@ -616,20 +596,17 @@ fn early_lines(before: Chips, after: Chips, slave: bool) -> u8 {
     }
 }
 
-fn level_facts(
-    before: Chips,
-    after: Chips,
-    rises: u8,
-    falls: u8,
-    told: u8,
-    slave_told: u8,
-) -> [u8; 16] {
-    let was = look_at(before, false);
-    let now = look_at(after, false);
-    let slave_was = look_at(before, true);
-    let slave_now = look_at(after, true);
+fn level_facts(before: Chips, after: Chips, rises: u8, r: Record) -> [u8; 16] {
+    let told = told_levels(r.op, r.port, r.byte, 0x00);
+    let slave_told = told_levels(r.op, r.port, r.byte, 0x30);
+    let to_slave = r.port == 3;
+    let early = early_lines(before, after, r.op, to_slave);
     let icu = after.icu;
     let slave = after.slave;
+    let was = look_at(before.icu, before.lines);
+    let now = look_at(icu, after.lines);
+    let slave_was = look_at(before.slave, before.slaveintp);
+    let slave_now = look_at(slave, after.slaveintp);
     let anew = now.irr & !was.irr & told;
     let gone = was.irr & !now.irr & told;
     let slave_anew = slave_now.irr & !slave_was.irr & slave_told;
@@ -654,9 +631,9 @@ fn level_facts(
         ),
         rises,
         icu::highest(slave.isr, slave.lowest),
-        falls,
-        0,
-        0,
+        outs_from(after.timer, before.timer),
+        early,
+        which::how_many(early) | (to_slave as u8) << 2,
     ]
 }
 

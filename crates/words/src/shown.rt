@@ -1,26 +1,27 @@
 // The state of the chips, a line for each of their parts.
+use crate::chips;
 use crate::chips::Chips;
+use dma::Dma;
 use icu::Icu;
 use sentences::text;
 use sentences::which;
+use timer::Timer;
 
 // All, or one chip: 1 the master, 2 the slave, 3 the timer, 4 the DMA chip.
 pub fn print(chips: Chips, which: u32) -> bool {
     match which {
-        1 => print_icu(chips, false),
-        2 => print_icu(chips, true),
-        3 => print_timer(chips),
-        4 => print_dma(chips),
-        _ => print_icu(chips, false)
-            && print_icu(chips, true)
-            && print_timer(chips)
-            && print_dma(chips),
+        1 => print_icu(chips.icu, chips.lines, false),
+        2 => print_icu(chips.slave, chips.slaveintp, true),
+        3 => print_timer(chips.timer),
+        4 => print_dma(chips.dma),
+        _ => print_icu(chips.icu, chips.lines, false)
+            && print_icu(chips.slave, chips.slaveintp, true)
+            && print_timer(chips.timer)
+            && print_dma(chips.dma),
     }
 }
 
-fn print_icu(chips: Chips, slave: bool) -> bool {
-    let i = chips.chip(slave);
-    let lines = chips.lines_of(slave);
+fn print_icu(i: Icu, lines: u8, slave: bool) -> bool {
     let irr = i.irr(lines);
     let asked = i.asked(lines);
     let int = i.int(lines);
@@ -79,12 +80,12 @@ fn print_set_up(i: Icu, slave: bool) -> bool {
     text::print_below(sentences::shown(7, f))
 }
 
-fn print_timer(chips: Chips) -> bool {
-    print_counter(chips, 0) && print_counter(chips, 1) && print_counter(chips, 2)
+fn print_timer(t: Timer) -> bool {
+    print_counter(t, 0) && print_counter(t, 1) && print_counter(t, 2)
 }
 
-fn print_counter(chips: Chips, k: u8) -> bool {
-    let c = chips.counter(k);
+fn print_counter(t: Timer, k: u8) -> bool {
+    let c = chips::counter(t, k);
     let reads = c.latched as u8 | (c.half as u8) << 1 | (c.second as u8) << 2;
     let waits = (c.pending as u8) << 3 | (c.trigger as u8) << 4;
     let f = [
@@ -108,8 +109,7 @@ fn print_counter(chips: Chips, k: u8) -> bool {
     text::print_below(sentences::shown(2 | (5 < c.mode) as u8, f))
 }
 
-fn print_dma(chips: Chips) -> bool {
-    let d = chips.dma;
+fn print_dma(d: Dma) -> bool {
     let f = [
         d.wide as u8,
         d.disabled as u8,
@@ -129,14 +129,14 @@ fn print_dma(chips: Chips) -> bool {
         0,
     ];
     text::print_below(sentences::shown(5, f))
-        && print_channel(chips, 0)
-        && print_channel(chips, 1)
-        && print_channel(chips, 2)
-        && print_channel(chips, 3)
+        && print_channel(d, 0)
+        && print_channel(d, 1)
+        && print_channel(d, 2)
+        && print_channel(d, 3)
 }
 
-fn print_channel(chips: Chips, k: u8) -> bool {
-    let c = chips.channel(k);
+fn print_channel(d: Dma, k: u8) -> bool {
+    let c = chips::channel(d, k);
     let current = c.current;
     let base = c.base;
     let at = current.address;

@@ -4,9 +4,8 @@ use Rattle.lesson.proofs.take_arguments.Statement.{statement}
 use Rattle.lesson.proofs.take_arguments.Tie as tie
 use Rattle.lesson.proofs.take_arguments.Reads as reads
 use Rattle.lesson.proofs.take_arguments.Lts as lts
-use Rattle.lesson.proofs.course.Course.end_command.Reads as end-command-reads
-use Rattle.lesson.proofs.course.Course.end_status.Reads as end-status-reads
-use Rattle.lesson.proofs.course.Course.start.Reads as start-reads
+use Rattle.lesson.proofs.end_arguments.Reads as end-arguments-reads
+use Rattle.reader.proofs.course.Course.start.Reads as start-reads
 use Rattle.lesson.proofs.take_argument.Reads as take-argument-reads
 
 abbrev Inv-loop : tie.InvT-loop
@@ -36,11 +35,8 @@ loop-less c = search needs
 loop-again : tie.Need-loop-again Inv-loop μ-loop
 loop-again c = search needs
 
-end-command-requires : tie.Need-end-command-requires Inv-loop μ-loop
-end-command-requires c κs = search needs
-
-end-status-requires : tie.Need-end-status-requires Inv-loop μ-loop
-end-status-requires c κs = search needs
+end-arguments-requires : tie.Need-end-arguments-requires Inv-loop μ-loop
+end-arguments-requires c κs = search needs
 
 returns-2 : tie.Need-returns-2 Inv-loop μ-loop
 returns-2 c = search needs
@@ -58,6 +54,5 @@ take-arguments-spec =
     add-i
     loop-less
     loop-again
-    end-command-requires
-    end-status-requires
+    end-arguments-requires
     returns-2)

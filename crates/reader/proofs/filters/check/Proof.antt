@@ -4,7 +4,7 @@ use Rattle.reader.proofs.filters.check.Tie as tie
 use Rattle.reader.proofs.filters.check.Reads as reads
 use Rattle.reader.proofs.filters.check.Lts as lts
 use Rattle.reader.proofs.filters.count.Reads as count-reads
-use Rattle.reader.proofs.filters.failed.Reads as failed-reads
+use Rattle.reader.proofs.filters.ended.Reads as ended-reads
 use Rattle.reader.proofs.filters.judge.Reads as judge-reads
 use Rattle.reader.proofs.lines.Lines.start.Reads as start-reads
 use Rattle.reader.proofs.lines.take.Reads as take-reads
@@ -47,8 +47,8 @@ loop-less c = search needs
 loop-again : tie.Need-loop-again Inv-loop μ-loop
 loop-again c = search needs
 
-failed-requires : tie.Need-failed-requires Inv-loop μ-loop
-failed-requires c κs = search needs
+ended-requires : tie.Need-ended-requires Inv-loop μ-loop
+ended-requires c κs = search needs
 
 returns-2 : tie.Need-returns-2 Inv-loop μ-loop
 returns-2 c = search needs
@@ -69,5 +69,5 @@ check-spec =
     sub-turns
     loop-less
     loop-again
-    failed-requires
+    ended-requires
     returns-2)

@@ -5,6 +5,7 @@ use Rattle.reader.proofs.filters.hold_once.Tie as tie
 use Rattle.reader.proofs.filters.hold_once.Reads as reads
 use Rattle.reader.proofs.filters.hold_once.Lts as lts
 use Rattle.reader.proofs.filters.record_of.Reads as record-of-reads
+use Rattle.sentences.proofs.bytes.Record.bytes.Reads as bytes-reads
 use Rattle.reader.proofs.held.hold_record.Reads as hold-record-reads
 use Rattle.sentences.proofs.text.more.Reads as more-reads
 
@@ -19,6 +20,9 @@ loop-holds c = search needs
 
 record-of-requires : tie.Need-record-of-requires Inv-loop μ-loop
 record-of-requires c κs = search needs
+
+bytes-requires : tie.Need-bytes-requires Inv-loop μ-loop
+bytes-requires c κs = search needs
 
 hold-record-requires : tie.Need-hold-record-requires Inv-loop μ-loop
 hold-record-requires c κs = search needs
@@ -52,6 +56,7 @@ hold-once-spec =
     μ-loop
     loop-holds
     record-of-requires
+    bytes-requires
     hold-record-requires
     more-requires
     add-at

@@ -1,32 +1,30 @@
 // A record as a line.
+use crate::bytes::Record;
 
-// Bytes 3 to 7 of a record are zero; it stands first among the facts.
-pub fn is_zero_later(r: [u8; 16]) -> bool {
-    r[3] | last_four(r) == 0
+// Bytes 3 to 7 of a record are zero.
+pub fn is_zero_later(r: Record) -> bool {
+    r.upper | last_four(r) == 0
 }
 
-fn last_four(r: [u8; 16]) -> u8 {
-    r[4] | r[5] | r[6] | r[7]
+fn last_four(r: Record) -> u8 {
+    r.low | r.high | r.third | r.fourth
 }
 
 // The sentence of the line that stands for a record: whatever has no line of its own is raw.
-pub fn sentence(r: [u8; 16]) -> u8 {
-    let op = r[0];
-    let x = r[1];
-    let y = r[2];
-    let z = r[3];
+pub fn sentence(r: Record) -> u8 {
+    let op = r.op;
     let last = last_four(r);
     match op {
-        5 => match x | y | z {
+        5 => match r.port | r.byte | r.upper {
             0 => 0x09,
             _ => 0x00,
         },
         6 => match last {
-            0 => cycle_sentence(x, y, z),
+            0 => cycle_sentence(r.port, r.byte, r.upper),
             _ => 0x00,
         },
-        _ => match z | last {
-            0 => short_sentence(op, x, y),
+        _ => match r.upper | last {
+            0 => short_sentence(op, r.port, r.byte),
             _ => 0x00,
         },
     }

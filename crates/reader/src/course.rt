@@ -1,10 +1,9 @@
-// The arguments, one after another: words start a command, and files belong to the last one.
-use crate::run;
+// The arguments, one after another: words start a command, and files belong to the last one. What is run on the board is due, and done elsewhere.
+use crate::comments;
+use crate::filters;
+use crate::output;
+use crate::usage;
 use libc::STDIN_FILENO;
-use reader::comments;
-use reader::filters;
-use reader::output;
-use reader::usage;
 
 // How far the arguments are taken.
 pub struct Course {
@@ -12,9 +11,12 @@ pub struct Course {
     checks: bool,
     // the command under way, as what is done with its files, and whether it has had one
     mode: u8,
-    has_file: bool,
+    pub has_file: bool,
     // how the program would end now; more than FAILED: it does
     pub status: u8,
+    // what is to be done on the board with a text that is open; FILE for nothing
+    pub due: u8,
+    pub fd: i32,
 }
 
 impl Course {
@@ -24,6 +26,8 @@ impl Course {
             mode: usage::RUN,
             has_file: false,
             status: report::WELL,
+            due: usage::FILE,
+            fd: STDIN_FILENO,
         }
     }
 
@@ -49,7 +53,15 @@ impl Course {
         if self.checks {
             return self.with(usage::check_file(self.mode, had_file, name));
         }
-        self.with(open_file(self.mode, name))
+        if self.mode == usage::CARD {
+            return self.with(end_card(comments::print_card(name)));
+        }
+        let fd = os::open_read(name);
+        if fd < 0 {
+            report::fail(name);
+            return self.with(report::FAILED);
+        }
+        self.take_text(fd, name)
     }
 
     // No more files belong to the command under way. One that had none takes standard input, or all cards.
@@ -60,10 +72,37 @@ impl Course {
         if self.checks {
             return self.with(usage::check_no_file(self.mode));
         }
+        if self.mode == usage::CARD {
+            return self.with(end_card(comments::print_index()));
+        }
         if usage::takes_one(self.mode) {
-            return self.with(run_without_file(self.mode));
+            return self.take_text(STDIN_FILENO, b"lesson: standard input");
         }
         self
+    }
+
+    // A text that is open.
+    fn take_text(mut self, fd: i32, path: &[u8]) -> Course {
+        let mode = self.mode;
+        self.fd = fd;
+        match mode {
+            usage::ASSEMBLE => self.end_text(filters::assemble(fd, path)),
+            usage::LIST => self.end_text(filters::tell(filters::LIST, fd, path)),
+            usage::EXPLAIN => self.end_text(filters::tell(filters::EXPLAIN, fd, path)),
+            _ => {
+                self.due = mode;
+                self
+            }
+        }
+    }
+
+    // The text is done with.
+    pub fn end_text(mut self, status: u8) -> Course {
+        self.due = usage::FILE;
+        if self.has_file {
+            libc::close(self.fd);
+        }
+        self.with(status)
     }
 
     // With no argument at all, the usage is told.
@@ -75,13 +114,6 @@ impl Course {
     }
 }
 
-fn run_without_file(mode: u8) -> u8 {
-    match mode {
-        usage::CARD => end_card(comments::print_index()),
-        _ => run_on(mode, STDIN_FILENO, b"lesson: standard input"),
-    }
-}
-
 // How the program would end after a card.
 fn end_card(found: u8) -> u8 {
     match found {
@@ -89,28 +121,4 @@ fn end_card(found: u8) -> u8 {
         1 => report::FAILED,
         _ => output::fail(),
     }
-}
-
-fn run_on(mode: u8, fd: i32, path: &[u8]) -> u8 {
-    match mode {
-        usage::TRY => run::run_typed(fd, path),
-        usage::ASSEMBLE => filters::assemble(fd, path),
-        usage::LIST => filters::tell(filters::LIST, fd, path),
-        usage::EXPLAIN => filters::tell(filters::EXPLAIN, fd, path),
-        _ => run::run_file(mode, fd, path),
-    }
-}
-
-fn open_file(mode: u8, path: &[u8]) -> u8 {
-    if mode == usage::CARD {
-        return end_card(comments::print_card(path));
-    }
-    let fd = os::open_read(path);
-    if fd < 0 {
-        report::fail(path);
-        return report::FAILED;
-    }
-    let status = run_on(mode, fd, path);
-    libc::close(fd);
-    status
 }
