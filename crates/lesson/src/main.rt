@@ -33,7 +33,7 @@ fn take_arguments(checks: bool, n: usize) -> u8 {
 }
 
 fn end_arguments(course: Course, n: usize) -> u8 {
-    run_without_file(course.end_command()).end_status(n)
+    run_due(course.end_command(), b"").end_status(n)
 }
 
 fn take_argument(course: Course, i: usize) -> Course {
@@ -43,22 +43,18 @@ fn take_argument(course: Course, i: usize) -> Course {
         os::fail(b"lesson: an argument");
         return course.with(report::USAGE);
     }
-    let next = course.take_word(&word[..n]);
-    if next.has_file {
-        return run_due(next, &word[..n]);
-    }
-    run_without_file(next)
+    let given = &word[..n];
+    run_due(course.take_word(given), given)
 }
 
-fn run_without_file(course: Course) -> Course {
-    run_due(course, b"lesson: standard input")
-}
-
-// What is due on the board.
-fn run_due(course: Course, path: &[u8]) -> Course {
+// What is due on the board: with the file that was given, or with standard input.
+fn run_due(course: Course, given: &[u8]) -> Course {
     let due = course.due;
     if due == usage::FILE {
         return course;
     }
-    course.end_text(run::run_text(due, course.fd, path))
+    if course.has_file {
+        return course.end_text(run::run_text(due, course.fd, given));
+    }
+    course.end_text(run::run_text(due, course.fd, b"lesson: standard input"))
 }

@@ -149,11 +149,13 @@ pub fn answered(n: u8, facts: [u8; 16], first: u64) -> Text {
 
 // What came of a record. Each piece begins with a semicolon and a space, or is empty. 10 is of the lines: 0 the levels that ask anew, 2 those that ask no more, 6 and 8 the
 // same of the slave, and after each how many these are (2 for several); 4 what became of INT, 5 the level in service that keeps it low, A what became of the slave's INT; B and
-// D the OUTs that rose and fell; E the lines that rose before their chip was ready, F how many, and 4 more for the slave's. 20 to 27 are of an interrupt chip's words: 0 the byte, 1 whether it is the slave's, 2 the levels that were finished, 3 how many, 4 those in
-// service, 5 what it awaits, 6 its first-ranked level. 30 to 34 are of a counter: 2 and 3 its latch, 4 what becomes of the count before this one, or when this one is taken over, 5 and 6 the
-// count. 40 to 43 are of the DMA chip: 8 and 9 a count, A the units that it stands for, 4 an address; for 42 0 the channels that ask and may be served, 2 those that are masked,
-// and how many, and 4 whether the chip is disabled. 50 is of gates: 0 the counters that will load, 2 those that stand still, 4 those that count now, 6 those that load and then stand still, and how many. 60 has the first
-// pulses at which an OUT rose, C its number, D how many are named, E whether there are more, &0 of them; 61 a counter's value and its number.
+// D the OUTs that rose and fell; E the lines that rose before their chip was ready, F how many, and 4 more for the slave's. 20 to 27 are of an interrupt chip's words: 0 the
+// byte, 1 whether it is the slave's, 2 the levels that were finished, 3 how many, 4 those in service, 5 what it awaits, 6 its first-ranked level. 28 is of an acknowledge: 1
+// whether the slave gave its bytes, 2 and 4 what is in service, 5 and 7 whether the ranks turned, 6 and 8 the lowest level. 30 to 34 are of a counter: 2 and 3 its latch, 4
+// what becomes of the count before this one, or when this one is taken over, 5 and 6 the count. 40 to 43 are of the DMA chip: 8 and 9 a count, A the units that it stands
+// for, 4 an address; for 42 0 the channels that ask and may be served, 2 those that are masked, and how many, and 4 whether the chip is disabled. 50 is of gates: 0 the
+// counters that will load, 2 those that stand still, 4 those that count now, 6 those that load and then stand still, and how many. 60 has the first pulses at which an OUT
+// rose, C its number, D how many are named, E whether there are more, &0 of them; 61 a counter's value and its number.
 pub fn happened(n: u8, facts: [u8; 16], first: u64) -> Text {
     fill(
         b"
@@ -165,8 +167,8 @@ pub fn happened(n: u8, facts: [u8; 16], first: u64) -> Text {
 23 ; level %603 is highest now
 24 ; no effect
 25 ; reads at port {1010|3}0 show {001IRR|ISR} now
-27 {503|; waits for IW2|; waits for IW4|; ready|; waits for IW3}
-28 ; in service:*408{101|; slave in service:*208}
+27 {503|; starts anew, waits for IW2|; waits for IW4|; ready|; waits for IW3}
+28 ; in service:*408{101|; slave in service:*208}{501|; level %603 is lowest now}{701|; slave level %803 is lowest now}
 
 30 ; waits for a count
 31 ; a latch waits to be read: no effect
@@ -274,7 +276,7 @@ pub fn refused(n: u8, facts: [u8; 16]) -> Text {
 pub fn bad_line(n: u8, line: u64, column: u64, found: [u8; 8]) -> Text {
     fill(
         b"
-00 :&0:&1: expected reset, write, read, intp, slave, gates, requests, acknowledge, advance, cycle, raw, repeat, memory, lend, expect, guess, show, chart or a # comment
+00 :&0:&1: expected reset, write, read, intp, slave, gates, requests, acknowledge, advance, cycle, raw, repeat, memory, lend, expect, guess, show, chart or a # comment; in 'lesson try' card or again too
 01 :&0:&1: expected a port, one or two hexadecimal digits
 02 :&0:&1: expected the byte to write, one or two hexadecimal digits
 03 :&0:&1: expected the levels, one or two hexadecimal digits

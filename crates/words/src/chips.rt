@@ -228,9 +228,7 @@ fn acknowledged(before: Chips, after: Chips, a: Answer, plain: bool) -> Text {
             passed,
         ),
     };
-    let i = after.icu;
-    let s = after.slave;
-    bytes.and(said).and(in_service(i.isr, s.isr, passed))
+    bytes.and(said).and(in_service(before.icu, after.icu, before.slave, after.slave, passed))
 }
 
 // What follows the bytes of an acknowledge: the level that the slave gives, or why the INT of the chip that gave them is low.
@@ -259,19 +257,20 @@ fn remark(sentence: u8, level: u8, service: u8, slave: bool) -> Text {
     )
 }
 
-fn in_service(isr: u8, slave_isr: u8, passed: bool) -> Text {
+// The levels in service, and where self-FI turned the ranks of a chip, its lowest.
+fn in_service(was: Icu, now: Icu, slave_was: Icu, slave_now: Icu, passed: bool) -> Text {
     sentences::happened(
         0x28,
         [
             0,
             passed as u8,
-            slave_isr,
+            slave_now.isr,
             0,
-            isr,
-            0,
-            0,
-            0,
-            0,
+            now.isr,
+            (now.lowest != was.lowest) as u8,
+            now.lowest,
+            (slave_now.lowest != slave_was.lowest) as u8,
+            slave_now.lowest,
             0,
             0,
             0,

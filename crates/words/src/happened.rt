@@ -537,8 +537,8 @@ fn look_at(i: Icu, lines: u8) -> Seen {
     }
 }
 
-// What became of an INT: 0 nothing to say, 1 it rose, 2 it fell; low all the same though levels ask anew: 3 they are masked, 4 a level in service has the rank, 5 the chip is
-// not ready, 6 some are masked and of the others 4 is true.
+// What became of an INT: 0 nothing to say, 1 it rose, 2 it fell; low all the same though levels ask anew, or are masked no more: 3 they are masked, 4 a level in service has the
+// rank, 5 the chip is not ready, 6 some are masked and of the others 4 is true.
 fn change(was: bool, now: bool, anew: u8, stage: u8, asked: u8) -> u8 {
     if now {
         return match was {
@@ -608,7 +608,11 @@ fn level_facts(before: Chips, after: Chips, rises: u8, r: Record) -> [u8; 16] {
     let slave_was = look_at(before.slave, before.slaveintp);
     let slave_now = look_at(slave, after.slaveintp);
     let anew = now.irr & !was.irr & told;
-    let gone = was.irr & !now.irr & told;
+    let gone = (was.irr | ticks(before.timer, icu.stage, r)) & !now.irr & told;
+    let master = before.icu;
+    let other = before.slave;
+    let unmasked = now.irr & master.imr & !icu.imr & told;
+    let slave_unmasked = slave_now.irr & other.imr & !slave.imr & slave_told;
     let slave_anew = slave_now.irr & !slave_was.irr & slave_told;
     let slave_gone = slave_was.irr & !slave_now.irr & slave_told;
     [
@@ -616,7 +620,13 @@ fn level_facts(before: Chips, after: Chips, rises: u8, r: Record) -> [u8; 16] {
         which::how_many(anew),
         gone,
         which::how_many(gone),
-        change(was.int, now.int, anew, icu.stage, icu.asked(after.lines)),
+        change(
+            was.int,
+            now.int,
+            anew | unmasked,
+            icu.stage,
+            icu.asked(after.lines),
+        ),
         icu::highest(icu.isr, icu.lowest),
         slave_anew,
         which::how_many(slave_anew),
@@ -625,7 +635,7 @@ fn level_facts(before: Chips, after: Chips, rises: u8, r: Record) -> [u8; 16] {
         change(
             slave_was.int,
             slave_now.int,
-            slave_anew,
+            slave_anew | slave_unmasked,
             slave.stage,
             slave.asked(after.slaveintp),
         ),
@@ -635,6 +645,13 @@ fn level_facts(before: Chips, after: Chips, rises: u8, r: Record) -> [u8; 16] {
         early,
         which::how_many(early) | (to_slave as u8) << 2,
     ]
+}
+
+// 1 where OUT0 rose in the pulses of an advance, so that level 0 of a chip that is ready asked, if only for a while.
+fn ticks(t: Timer, stage: u8, r: Record) -> u8 {
+    let c = chips::counter(t, 0);
+    let ran = c.run(r.pulses());
+    ((r.op == 5) & (stage == Icu::READY) & (0 < ran.rises)) as u8
 }
 
 // Records that change the requests of a chip by themselves, a reset and its IW1, leave no level of it to be told of: 0 for them, and 255 for others. The chip is known by its
