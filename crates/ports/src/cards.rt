@@ -245,7 +245,7 @@ D3-D1  CM: the mode, 000 to 101; 110 is mode 2, 111 is mode 3. Card modes
 D0  BCD: 0 binary; 1 is refused (4)
 With RWM 01, 10 or 11 it is a mode word: OUT goes low in mode 0, high in
 the others. A latch, a trigger, half a count and half a read are dropped.
-The value stays, and nothing counts until a count is complete.
+The value stays (after reset 0000); nothing counts until a count is complete.
 OUT0  is line 0 of the master, once that is ready: a mode word that raises it
   makes a request, a word of mode 0 takes it away. In level trigger it asks
   as long as OUT0 is high, and modes 1 to 5 start high.

@@ -223,7 +223,7 @@ pub fn shown(n: u8, facts: [u8; 16]) -> Text {
 pub fn refused(n: u8, facts: [u8; 16]) -> Text {
     fill(
         b"
-10 1: channel %902 has the bus; give it cycles until it is done
+10 1: channel %902 has the bus; give it cycles until the bus is free
 
 20 2: bytes 1 to 7 of a reset must be zero
 21 2: bytes 3 to 7 of a write must be zero
