@@ -71,6 +71,7 @@ impl Record {
     }
 }
 
+// The names are those of a read, an acknowledge and a DMA cycle; in the answer to an advance the last twelve bytes are the rises of OUT0, OUT1 and OUT2.
 pub struct Answer {
     pub status: u8,
     pub op: u8,
@@ -94,7 +95,7 @@ pub struct Answer {
     pub outside: u8,
     // the upper byte of a word
     pub upper: u8,
-    // not used by the board; for facts
+    // 0 but after an advance; in an acknowledge's row, facts beside the answer
     pub first_fact: u8,
     pub second_fact: u8,
 }
