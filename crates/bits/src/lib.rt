@@ -1,4 +1,6 @@
 // The bits of a byte, and the 16-bit count that falls.
+#![tactic(auto)]
+
 ghost use Rattle.std.specs.Prelude.{◌≡◌, ◌≤◌};
 ghost use Rattle.bits.specs.Bits.{bit_of, with_of, without_of, masked_of, weighed, less};
 

@@ -22,14 +22,14 @@ use timer::Timer;
 
 // The bytes of a cut record, which wait for the next call.
 #[repr(C)]
-#[derive(Drop)]
+#[derive(Clone, Copy)]
 pub struct Kept {
     pub bytes: [u8; 7],
     pub length: u8,
 }
 
 #[repr(C)]
-#[derive(Drop)]
+#[derive(Clone, Copy)]
 pub struct Board {
     // the master
     pub icu: Icu,
@@ -44,7 +44,7 @@ pub struct Board {
 }
 
 // What an interrupt chip does in its turn: the chip afterwards, and the status, data and payload of its answer.
-#[derive(Drop)]
+#[derive(Clone, Copy)]
 pub struct Turn {
     pub icu: Icu,
     pub status: u8,
@@ -53,20 +53,20 @@ pub struct Turn {
 }
 
 // The interrupt chip once its lines have changed, and the levels that an answer then shows.
-#[derive(Drop)]
+#[derive(Clone, Copy)]
 pub struct Wired {
     pub icu: Icu,
     pub levels: u8,
 }
 
-#[derive(Drop)]
+#[derive(Clone, Copy)]
 pub struct Stepped {
     pub board: Board,
     pub answer: [u8; 16],
 }
 
 // What n pulses make of the timer and the interrupt chip, and how many made each OUT rise.
-#[derive(Drop)]
+#[derive(Clone, Copy)]
 pub struct Run {
     pub timer: Timer,
     pub icu: Icu,
@@ -540,7 +540,7 @@ impl Board {
     }
 
     fn step_intp(self, op: u8, x: u8) -> Stepped
-        ensures { result ≡ answered_of op (done (followed self (intp-is x self))) }
+        ensures { result ≡ answered_of op (done (followed self (intp_is x self))) }
     {
         let mut next = self;
         next.intp = x;
@@ -550,7 +550,7 @@ impl Board {
 
     // A gate's fall may set OUT0 high.
     fn step_gates(self, op: u8, x: u8) -> Stepped
-        ensures { result ≡ answered_of op (done (followed self (timer-is (gates_of self.timer x) self))) }
+        ensures { result ≡ answered_of op (done (followed self (timer_is (gates_of self.timer x) self))) }
     {
         let t = self.timer;
         let mut next = self;
@@ -560,7 +560,7 @@ impl Board {
     }
 
     fn step_requests(self, op: u8, x: u8) -> Stepped
-        ensures { result ≡ answered_of op (done (dma-is (requested_of self.dma x) self)) }
+        ensures { result ≡ answered_of op (done (dma_is (requested_of self.dma x) self)) }
     {
         let d = self.dma;
         let mut next = self;

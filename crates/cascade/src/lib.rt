@@ -11,7 +11,7 @@ pub const MASTER_IW3: u8 = 0x80;
 pub const SLAVE_IW3: u8 = 0x07;
 
 // How a chip is set up, by IW1 once it is ready.
-#[derive(Drop)]
+#[derive(Clone, Copy)]
 pub enum SetUp {
     Unready,
     Single,
@@ -19,7 +19,7 @@ pub enum SetUp {
 }
 
 // Who answers an acknowledge.
-#[derive(Drop)]
+#[derive(Clone, Copy)]
 pub enum Answerer {
     Nobody,
     Master,

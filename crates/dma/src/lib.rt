@@ -1,5 +1,7 @@
 // The 71071: four DMA channels that move bytes or words between a device and lent memory, one unit a bus cycle.
 // Not modelled: memory to memory, software requests, cascade, bus timing.
+#![tactic(auto)]
+
 ghost use Rattle.std.specs.Prelude.{◌≡◌, Bool, not, [], ◌+◌, ◌≤◌, ◌<◌, ltb, set, length};
 ghost use Rattle.bits.specs.Choice.{if◌then◌else◌};
 ghost use Rattle.dma.specs.Fields.{chan, channels_are};
@@ -9,14 +11,14 @@ ghost use Rattle.dma.specs.Cycle.{ready, channel_at, winner, granted_of, first_a
 
 // Where a transfer stands, or starts: an address of 24 bits, and the units still to come, less one.
 #[repr(C)]
-#[derive(Drop)]
+#[derive(Clone, Copy)]
 pub struct Span {
     pub address: u32,
     pub count: u16,
 }
 
 #[repr(C)]
-#[derive(Drop)]
+#[derive(Clone, Copy)]
 pub struct Channel {
     pub current: Span,
     pub base: Span,
@@ -26,7 +28,7 @@ pub struct Channel {
 }
 
 #[repr(C)]
-#[derive(Drop)]
+#[derive(Clone, Copy)]
 pub struct Dma {
     pub channels: [Channel; 4],
     // 16B: the data bus has 16 bits
@@ -47,7 +49,7 @@ pub struct Dma {
 }
 
 // What a write answers: 0, 2 where the register is not there to write, 4 where it is not built.
-#[derive(Drop)]
+#[derive(Clone, Copy)]
 pub struct Written {
     pub status: u8,
     pub dma: Dma,
@@ -76,7 +78,7 @@ impl Written {
 }
 
 // What a read answers, with the same statuses.
-#[derive(Drop)]
+#[derive(Clone, Copy)]
 pub struct Got {
     pub status: u8,
     pub byte: u8,
@@ -84,7 +86,7 @@ pub struct Got {
 }
 
 // The same without the chip, of which a read changes the end bits at the most: they stand here as they are after it.
-#[derive(Drop)]
+#[derive(Clone, Copy)]
 pub struct Seen {
     pub status: u8,
     pub byte: u8,
@@ -92,7 +94,7 @@ pub struct Seen {
 }
 
 // What a unit carries: its byte, a word's upper byte, and whether any of it lies outside the lent memory.
-#[derive(Drop)]
+#[derive(Clone, Copy)]
 pub struct Carried {
     pub byte: u8,
     pub upper: u8,
@@ -112,7 +114,7 @@ impl Carried {
 }
 
 // One byte or word moved, or verified.
-#[derive(Drop)]
+#[derive(Clone, Copy)]
 pub struct Unit {
     pub channel: u8,
     pub end: bool,
@@ -124,7 +126,7 @@ pub struct Unit {
 }
 
 // What one bus cycle did, with the channel that it did it for.
-#[derive(Drop)]
+#[derive(Clone, Copy)]
 pub enum Report {
     Nothing,
     Granted(u8),
@@ -132,7 +134,7 @@ pub enum Report {
     Released(u8),
 }
 
-#[derive(Drop)]
+#[derive(Clone, Copy)]
 pub struct Cycle {
     pub dma: Dma,
     pub report: Report,
@@ -504,7 +506,7 @@ impl Dma {
 
     // Channel n replaced, where there is one.
     fn with_channel(mut self, n: u8, c: Channel) -> Dma
-        ensures { result ≡ channels-are (set self.channels n c) self }
+        ensures { result ≡ channels_are (set self.channels n c) self }
     {
         if n == 0 {
             self.channels[0] = c;

@@ -1,6 +1,8 @@
 // The interrupt chip, a 71059: eight levels, one INT. Which others it is wired to (IW3), and what they do together, is not the chip's own
 // matter: see the crate `cascade`.
 // Not modelled: polling, the exceptional nesting mode, the bits of IW4 but two, the pins' timing.
+#![tactic(auto)]
+
 ghost use Rattle.std.specs.Prelude.{◌≡◌, ◌≤◌};
 ghost use Rattle.bits.specs.Choice.{if◌then◌else◌, ◌and◌};
 ghost use Rattle.bits.specs.Bits.{with_of, without_of};
@@ -12,7 +14,7 @@ ghost use Rattle.icu.specs.Service.{served_of, vector_of, call_low_of, naming, a
 
 // What the chip holds. IRR is no field: it is the lines, or the edge requests. Neither is INT.
 #[repr(C)]
-#[derive(Drop)]
+#[derive(Clone, Copy)]
 pub struct Icu {
     // which word A0=1 takes: none yet, IW2, IW3, IW4, or IMR when ready
     pub stage: u8,
@@ -33,7 +35,7 @@ pub struct Icu {
 }
 
 // What a write answers.
-#[derive(Drop)]
+#[derive(Clone, Copy)]
 pub enum Written {
     Taken(Icu),
     OutOfTurn,
@@ -41,14 +43,14 @@ pub enum Written {
 }
 
 // What a read answers; it changes nothing.
-#[derive(Drop)]
+#[derive(Clone, Copy)]
 pub enum Got {
     Shown(u8),
     NotReady,
 }
 
 // What an acknowledge answers: a vector, or the two address bytes of a CALL.
-#[derive(Drop)]
+#[derive(Clone, Copy)]
 pub enum Acknowledged {
     Vector(Icu, u8),
     Call(Icu, u8, u8),

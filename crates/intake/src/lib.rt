@@ -12,7 +12,7 @@ use timer::{Counter, Timer};
 
 // What a call comes to: 0 and the records that it took, or 7 and none.
 #[repr(C)]
-#[derive(Drop)]
+#[derive(Clone, Copy)]
 pub struct Fed {
     pub status: u8,
     pub records: usize,

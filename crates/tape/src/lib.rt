@@ -4,7 +4,7 @@ ghost use Rattle.tape.specs.Records.{held_of, unused, writable, readable, pulse_
 ghost use Rattle.tape.specs.Answers.{twelve, little_of, answer_of};
 
 // What a record asks for. Lines come by group: INTP, gates, DMA requests, the slave's INTP.
-#[derive(Drop)]
+#[derive(Clone, Copy)]
 pub enum Operation {
     Reset,
     // port, data
@@ -22,7 +22,7 @@ pub enum Operation {
     Cycle(bool, u8, u8),
 }
 
-#[derive(Drop)]
+#[derive(Clone, Copy)]
 pub enum Decoded {
     Asked(Operation),
     Malformed,

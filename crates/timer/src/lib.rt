@@ -1,4 +1,6 @@
 // The 71054: three counters on one clock, in six modes, binary; the multiple latch and BCD are not built.
+#![tactic(auto)]
+
 ghost use Rattle.std.specs.Prelude.{◌≡◌, ◌≤◌, ◌<◌, ltb};
 ghost use Rattle.timer.specs.Shared.{transferred};
 ghost use Rattle.timer.specs.Mode0.{pulse0};
@@ -15,7 +17,7 @@ ghost use Rattle.timer.specs.Steady.{moved, fall0, fall2, fall3, fall4, fell_of,
 ghost use Rattle.timer.specs.Timer.{at, resets_of, wrote_by, controls_of, writes_of, reads_of, pulses_of, gates_of, outs_of};
 
 #[repr(C)]
-#[derive(Drop)]
+#[derive(Clone, Copy)]
 pub struct Counter {
     // 0 to 5, any other number is no mode
     pub mode: u8,
@@ -46,7 +48,7 @@ pub struct Counter {
 }
 
 // What a counter answers to a control word or a count byte.
-#[derive(Drop)]
+#[derive(Clone, Copy)]
 pub enum Wrote {
     Taken(Counter),
     // no mode is set
@@ -58,14 +60,14 @@ pub enum Wrote {
 }
 
 // What a counter answers to a read: the byte and the counter afterwards, or that no mode is set.
-#[derive(Drop)]
+#[derive(Clone, Copy)]
 pub enum Shown {
     Byte(u8, Counter),
     Modeless,
 }
 
 // What a read of a counter answers: the status, the byte, and the two fields that it may change as they are after it.
-#[derive(Drop)]
+#[derive(Clone, Copy)]
 pub struct Seen {
     pub status: u8,
     pub byte: u8,
@@ -74,14 +76,14 @@ pub struct Seen {
 }
 
 // What n pulses make of a counter: the counter afterwards, and how many of them made OUT rise.
-#[derive(Drop)]
+#[derive(Clone, Copy)]
 pub struct Ran {
     pub counter: Counter,
     pub rises: u32,
 }
 
 // The same of the three fields that move once nothing pends.
-#[derive(Drop)]
+#[derive(Clone, Copy)]
 pub struct Fall {
     pub value: u16,
     pub out: bool,
@@ -90,20 +92,20 @@ pub struct Fall {
 }
 
 #[repr(C)]
-#[derive(Drop)]
+#[derive(Clone, Copy)]
 pub struct Timer {
     pub counters: [Counter; Timer::COUNTERS],
 }
 
 // What the timer answers to a write: the status, and the timer afterwards.
-#[derive(Drop)]
+#[derive(Clone, Copy)]
 pub struct Written {
     pub status: u8,
     pub timer: Timer,
 }
 
 // What the timer answers to a read: the byte is zero where the status isn't.
-#[derive(Drop)]
+#[derive(Clone, Copy)]
 pub struct Got {
     pub status: u8,
     pub byte: u8,

@@ -1,0 +1,5 @@
+use borrow.Author.Rules.{rules}
+use Rattle.dma.proofs.Channel.does_stop.Goals as goal
+
+pub returns : goal.returns
+returns c = rw c.if-last.false

@@ -1,0 +1,7 @@
+use Rattle.dma.specs.Cycle.{unit_of}
+use borrow.Author.Rules.{rules}
+use Rattle.dma.proofs.Dma.move_unit.Goals as goal
+
+pub returns : goal.returns
+unfolding unit_of
+returns c = (rw (c.settle-settled.ensures, c.advance-next.ensures, c.does_stop-stop.ensures, c.is_last-last.ensures, c.channel_at-c.ensures), (rw (c.transfer-carried.ensures.result, c.does_stop-stop.ensures, c.is_last-last.ensures, c.channel_at-c.ensures), rw (c.transfer-carried.ensures.memory, c.channel_at-c.ensures)))

@@ -1,0 +1,20 @@
+use Rattle.dma.proofs.Lists.{unmapped}
+use native.Mathlib.Omega.{arith}
+use lib.Seq.{set_out}
+use borrow.Author.Rules.{rules}
+use Rattle.dma.proofs.Dma.with_channel.Goals as goal
+
+pub returns-then-n-eq0 : goal.returns-then-n-eq0
+returns-then-n-eq0 c = rw c.if-n-eq0.true
+
+pub returns-then-n-eq1 : goal.returns-then-n-eq1
+returns-then-n-eq1 c = rw c.if-n-eq1.true
+
+pub returns-then-n-eq2 : goal.returns-then-n-eq2
+returns-then-n-eq2 c = rw c.if-n-eq2.true
+
+pub returns-then-n-eq3 : goal.returns-then-n-eq3
+returns-then-n-eq3 c = rw c.if-n-eq3.true
+
+pub returns : goal.returns
+returns c = let four = unmapped c.args.t1.channels _ 4 c.well_formed.0.1.1.0.1.0.1 in rw (set_out c.args.t1.channels c.args.n c.args.c (omega arith))

@@ -1,0 +1,7 @@
+use Rattle.icu.specs.Requests.{asked_of}
+use borrow.Author.Rules.{rules}
+use Rattle.icu.proofs.Icu.asked.Goals as goal
+
+pub returns : goal.returns
+unfolding asked_of
+returns c = rw (c.masked.ensures, c.irr.ensures)

@@ -1,0 +1,25 @@
+use mathlib.Core.Path.{◌≡◌}
+use Prim.Native.Nat.{ℕ, ◌+◌, ◌-◌, ◌≤◌}
+use native.Mathlib.Omega.{arith}
+use borrow.Author.Rules.{rules}
+use Rattle.timer.specs.Run.{ran_of}
+use Rattle.timer.proofs.Runs.{runs, few}
+use Rattle.timer.proofs.Counter.run.Goals as goal
+
+pub returns-then-n-eq0 : goal.returns-then-n-eq0
+unfolding ran_of
+returns-then-n-eq0 c = rw (c.rest.ensures, c.if-n-eq0.true)
+
+pub overflow_add-result : goal.overflow_add-result
+overflow_add-result c =
+    let s = c in
+    let a = s.before.before.before.args in
+    let h : s.run-steady.result.rises ≤ a.n - 1 = rw (s.run-steady.ensures, s.before.pulse.ensures) (few a.self (a.n - 1)) in
+    omega (arith, c.rise.ensures.upper_bound, h)
+
+pub returns : goal.returns
+returns c =
+    let s = c in
+    let a = s.before.before.before.args in
+    let e : a.n - 1 + 1 ≡ a.n = omega arith in
+    rw (c.rise.ensures.value, s.run-steady.ensures, s.before.pulse.ensures) (rw e at (runs a.self (a.n - 1)))

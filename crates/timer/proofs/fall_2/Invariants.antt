@@ -1,0 +1,17 @@
+use mathlib.Core.Path.{◌≡◌, refl, sym}
+use mathlib.Core.Bool.{true, false}
+use Prim.Native.Nat.{ℕ, ◌-◌, ◌≤◌}
+use native.Mathlib.Nat.{add-zero}
+use native.Mathlib.Omega.{arith}
+use borrow.Author.Rules.{rules}
+use borrow.Author.Tests.{eq-eqb, ne_eqb}
+use Rattle.timer.specs.declared.Fall.{Fall}
+use Rattle.timer.specs.Steady.{Moving, moved, fall2, fell_of}
+use Rattle.timer.proofs.Runs.{on, no_rise, no_rise_low}
+use Rattle.timer.proofs.fall_2.Given as goal
+
+abbrev pub invariant-loop-i : goal.invariant-loop-i
+invariant-loop-i l = (l.i ≤ l.n) × (l.rises ≤ l.i) × (◌≡◌ {A = Fall} (record { l.value = l.v; l.out = l.high; l.odd = l.odd; l.rises = l.rises }) (fell_of (fall2 l.count) (moved l.value l.out l.odd) l.i))
+
+abbrev pub decreases-loop-i : goal.decreases-loop-i
+decreases-loop-i l = l.n - l.i

@@ -1,0 +1,16 @@
+use mathlib.Core.Path.{◌≡◌, refl}
+use Prim.Native.Nat.{◌-◌, ◌≤◌}
+use native.Mathlib.Nat.{add-zero}
+use native.Mathlib.Omega.{arith}
+use borrow.Author.Rules.{rules}
+use borrow.Author.Tests.{eq-eqb, ne_eqb}
+use Rattle.timer.specs.declared.Fall.{Fall}
+use Rattle.timer.specs.Steady.{moved, fall3, fell_of}
+use Rattle.timer.proofs.Runs.{on, no_rise}
+use Rattle.timer.proofs.fall_3.Given as goal
+
+abbrev pub invariant-loop-i : goal.invariant-loop-i
+invariant-loop-i l = (l.i ≤ l.n) × (l.rises ≤ l.i) × (◌≡◌ {A = Fall} (record { l.value = l.v; l.out = l.high; l.odd = l.long; l.rises = l.rises }) (fell_of (fall3 l.count) (moved l.value l.out l.odd) l.i))
+
+abbrev pub decreases-loop-i : goal.decreases-loop-i
+decreases-loop-i l = l.n - l.i
