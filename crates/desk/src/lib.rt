@@ -1,7 +1,10 @@
 // A lesson under way, or lines as they are typed: what is to be done next, and what is told of it. The board is elsewhere; its chips are shown to the desk before and after each
 // record, and its memory is lent to it.
+#![tactic(auto)]
+
 use notation::line::Parsed;
 use reader::lines::Lines;
+use reader::source::Source;
 use reader::tally::Tally;
 use reader::{comments, expected, filters, lines, memory, output, pieces, usage};
 use sentences::bytes::{Answer, Record};
@@ -21,7 +24,7 @@ const PUT: u8 = 3;
 
 const COMPARE: u8 = 4;
 
-#[derive(Drop)]
+#[derive(Clone, Copy)]
 pub struct Desk {
     // what is done with the lesson, and whether a guess is still asked for somewhere: then rows say no more than the answers
     mode: u8,
@@ -90,7 +93,7 @@ impl Desk {
     pub fn take(
         self,
         chips: Chips,
-        fd: i32,
+        source: &Source,
         path: &[u8],
         line: &mut [u8; 1000],
         lump: &mut [u8; 65536],
@@ -102,7 +105,7 @@ impl Desk {
             next.due = RECORD;
             return next;
         }
-        let t = lines::take(fd, path, line, lump, self.lines);
+        let t = lines::take(source, path, line, lump, self.lines);
         let lines = t.lines;
         let p = t.parsed;
         next.lines = lines;

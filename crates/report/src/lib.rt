@@ -1,7 +1,22 @@
 // What a program tells beside its output: how it ended, to whoever started it, and names, with nothing in them that a terminal would obey.
-ghost use Rattle.std.specs.Prelude.{max, ◌≡◌};
+#![tactic(auto)]
 
-use libc::STDERR_FILENO;
+ghost use Rattle.std.specs.Prelude.{max, ◌≡◌, ◌≤◌};
+ghost use Rattle.std.specs.Io.{ReadsAtMost};
+
+use std::env::FillError;
+use std::fmt;
+use std::fmt::Write;
+use std::io::{Error, ErrorKind};
+use std::rt::Env;
+use std_io::io::last_error;
+
+// The descriptors that each program begins with.
+pub const STDIN: i32 = 0;
+
+pub const STDOUT: i32 = 1;
+
+pub const STDERR: i32 = 2;
 
 // How a program ended, as `run` passes it on.
 pub const WELL: u8 = 0;
@@ -34,19 +49,106 @@ pub fn worse(a: u8, b: u8) -> u8
 
 // What was written could not be: says so, or nothing where nobody reads it, and answers how the program ends.
 pub fn fail_output(what: &[u8]) -> u8 {
-    if os::errno() == libc::EPIPE {
+    let error = last_error();
+    if error.kind() == ErrorKind::BrokenPipe {
         return CLOSED;
     }
-    os::fail(what);
+    fail_with(what, &error);
     FAILED
 }
 
 // Says of a file what errno says.
 pub fn fail(name: &[u8]) {
+    fail_of(name, &last_error());
+}
+
+// Says of a file why a call on it failed.
+pub fn fail_of(name: &[u8], error: &Error) {
     let mut shown = [0u8; 16384];
     let n = show(name, &mut shown);
-    fail_shown(&shown, n);
+    fail_shown(&shown, n, error);
 }
+
+// A line on standard error: what failed, as the caller names it, a colon and the error's text.
+pub fn fail_with(what: &[u8], error: &Error) {
+    let mut said = Said {
+        text: [0; 320],
+        length: 0,
+    };
+    let _ = write!(said, "{error}");
+    let n = said.plain_length(error.raw_os_error().is_some());
+    io::write_all(STDERR, what);
+    io::write_all(STDERR, b": ");
+    print_said(&said.text, n);
+    io::write_all(STDERR, b"\n");
+}
+
+// An error's text.
+#[derive(Drop)]
+struct Said {
+    text: [u8; 320],
+    length: usize,
+}
+
+impl fmt::Write for Said {
+    fn write_str(&mut self, s: &str) -> fmt::Result {
+        for x in s.as_bytes() {
+            if self.length < 320 {
+                self.text[self.length] = *x;
+                self.length += 1;
+            }
+        }
+        Ok(())
+    }
+}
+
+impl Said {
+    // The length without the errno's number, which ends the text, in parentheses after a space.
+    fn plain_length(&self, has_number: bool) -> usize {
+        let mut n = self.length;
+        if has_number {
+            for i in 0..320 {
+                if i < self.length {
+                    if self.text[i] == b'(' {
+                        n = i.saturating_sub(1);
+                    }
+                }
+            }
+        }
+        n
+    }
+}
+
+fn print_said(text: &[u8; 320], n: usize) {
+    print_part(STDERR, text, n);
+}
+
+// How many words the program was started with, its own name among them.
+pub fn arg_count<R: Env>(rt: &R) -> usize {
+    let mut word = [0u8; 1];
+    for n in 0..usize::MAX {
+        if let Err(FillError::NotPresent) = rt.arg(n, &mut word) {
+            return n;
+        }
+    }
+    usize::MAX
+}
+
+// Puts one of them at the start of buf and answers its length, or why it is not there.
+pub fn arg<R: Env>(rt: &R, i: usize, buf: &mut [u8]) -> Result<usize, Error>
+    ensures { ReadsAtMost result buf.new }
+{
+    match rt.arg(i, buf) {
+        Ok(n) => Ok(n),
+        Err(FillError::TooLong) => Err(Error::from_raw_os_error(TOO_LONG)),
+        Err(FillError::NotPresent) => Err(Error::from_raw_os_error(INVALID)),
+    }
+}
+
+// What the system calls a word that is too long, and one that is not there.
+const TOO_LONG: i32 = 36;
+
+const INVALID: i32 = 22;
 
 // A file's name.
 pub fn print_name(fd: i32, name: &[u8]) -> bool {
@@ -57,22 +159,22 @@ pub fn print_name(fd: i32, name: &[u8]) -> bool {
 
 // A message that begins with a file's name.
 pub fn say_of(name: &[u8], text: &[u8]) {
-    print_name(STDERR_FILENO, name);
-    io::write_all(STDERR_FILENO, text);
+    print_name(STDERR, name);
+    io::write_all(STDERR, text);
 }
 
 // The arrays as slices: their length is known by their type here.
-fn fail_shown(shown: &[u8; 16384], n: usize) {
-    fail_part(shown, n);
+fn fail_shown(shown: &[u8; 16384], n: usize, error: &Error) {
+    fail_part(shown, n, error);
 }
 
 fn print_shown(fd: i32, shown: &[u8; 16384], n: usize) -> bool {
     print_part(fd, shown, n)
 }
 
-fn fail_part(shown: &[u8], n: usize) {
+fn fail_part(shown: &[u8], n: usize, error: &Error) {
     if n <= shown.len() {
-        os::fail(&shown[..n]);
+        fail_with(&shown[..n], error);
     }
 }
 
