@@ -2,7 +2,7 @@
 #![tactic(auto)]
 
 ghost use Rattle.std.specs.Prelude.{max, ◌≡◌, ◌≤◌};
-ghost use Rattle.std.specs.Io.{WritesAtMost};
+ghost use Rattle.std.specs.Io.{ReadsAtMost};
 
 use std::env::FillError;
 use std::fmt;
@@ -136,7 +136,7 @@ pub fn arg_count<R: Env>(rt: &R) -> usize {
 
 // Puts one of them at the start of buf and answers its length, or why it is not there.
 pub fn arg<R: Env>(rt: &R, i: usize, buf: &mut [u8]) -> Result<usize, Error>
-    ensures { WritesAtMost result buf.new }
+    ensures { ReadsAtMost result buf.new }
 {
     match rt.arg(i, buf) {
         Ok(n) => Ok(n),
