@@ -1,4 +1,6 @@
 // Two interrupt chips, the slave's INT on line 7 of the master. Each keeps to the rules of the crate `icu`; here is what comes of the wire between them.
+#![tactic(auto)]
+
 ghost use Rattle.std.specs.Prelude.{◌≡◌, false};
 ghost use Rattle.cascade.specs.declared.SetUp.TheVariants.{Single, Extended};
 ghost use Rattle.cascade.specs.Cascade.{joined_of, set_up_of, alike, answerer_by, answerer_of, answered, takes7, passed_on};

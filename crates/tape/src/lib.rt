@@ -1,4 +1,6 @@
 // The tape's records of 8 bytes, read as operations, and the answers of 16 bytes.
+#![tactic(auto)]
+
 ghost use Rattle.std.specs.Prelude.{◌≡◌, ◌++◌, ◌+◌, ◌<◌, ◌≤◌, length, take, get_or};
 ghost use Rattle.tape.specs.Records.{held_of, unused, writable, readable, pulse_count, lines_asked, decode_of, uses_bus};
 ghost use Rattle.tape.specs.Answers.{twelve, little_of, answer_of};

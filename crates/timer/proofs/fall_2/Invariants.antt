@@ -11,7 +11,7 @@ use Rattle.timer.proofs.Runs.{on, no_rise, no_rise_low}
 use Rattle.timer.proofs.fall_2.Given as goal
 
 abbrev pub invariant-loop-i : goal.invariant-loop-i
-invariant-loop-i l = (l.i ≤ l.n) × (l.rises ≤ l.i) × (◌≡◌ {A = Fall} (record { l.value = l.v; l.out = l.high; l.odd = l.odd; l.rises = l.rises }) (fell_of (fall2 l.count) (moved l.value l.out l.odd) l.i))
+invariant-loop-i l = (l.i ≤ l.n) × (l.rises ≤ l.i) × (◌≡◌ {A = Fall} (record { value = l.v; out = l.high; odd = l.odd; rises = l.rises }) (fell_of (fall2 l.count) (moved l.value l.out l.odd) l.i))
 
 abbrev pub decreases-loop-i : goal.decreases-loop-i
 decreases-loop-i l = l.n - l.i

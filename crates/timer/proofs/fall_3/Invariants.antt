@@ -10,7 +10,7 @@ use Rattle.timer.proofs.Runs.{on, no_rise}
 use Rattle.timer.proofs.fall_3.Given as goal
 
 abbrev pub invariant-loop-i : goal.invariant-loop-i
-invariant-loop-i l = (l.i ≤ l.n) × (l.rises ≤ l.i) × (◌≡◌ {A = Fall} (record { l.value = l.v; l.out = l.high; l.odd = l.long; l.rises = l.rises }) (fell_of (fall3 l.count) (moved l.value l.out l.odd) l.i))
+invariant-loop-i l = (l.i ≤ l.n) × (l.rises ≤ l.i) × (◌≡◌ {A = Fall} (record { value = l.v; out = l.high; odd = l.long; rises = l.rises }) (fell_of (fall3 l.count) (moved l.value l.out l.odd) l.i))
 
 abbrev pub decreases-loop-i : goal.decreases-loop-i
 decreases-loop-i l = l.n - l.i

@@ -19,4 +19,4 @@ pub returns-then-n-eq3 : goal.returns-then-n-eq3
 returns-then-n-eq3 c = rw c.if-n-eq3.true
 
 pub returns : goal.returns
-returns c = let four = unmapped c.args.t1.channels _ 4 c.well_formed.0.1.1.0.1.0.1 in sym (get_or-eq_default c.args.t1.channels none (omega arith))
+returns c = let four = c.well_formed.0.1.1.0.1.0.1 in sym (get_or-eq_default c.args.self.channels none (omega arith))

@@ -20,11 +20,11 @@ returns-then-high c = rw (c.if-high.true, c.if-self.false, ← c.has_trigger.ens
 
 pub returns-then-lifts_out : goal.returns-then-lifts_out
 unfolding gate_of
-returns-then-lifts_out c = rw (c.if-high.false, c.if-self-3.true, ← c.Lifts-out.ensures, c.if-lifts_out.true)
+returns-then-lifts_out c = rw (c.if-high.false, c.if-self-3.true, ← c.lifts_out.ensures, c.if-lifts_out.true)
 
 pub returns-then-self-3 : goal.returns-then-self-3
 unfolding gate_of
-returns-then-self-3 c = rw (c.if-high.false, c.if-self-3.true, ← c.Lifts-out.ensures, c.if-lifts_out.false)
+returns-then-self-3 c = rw (c.if-high.false, c.if-self-3.true, ← c.lifts_out.ensures, c.if-lifts_out.false)
 
 pub returns : goal.returns
 unfolding gate_of
