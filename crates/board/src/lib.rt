@@ -1,5 +1,7 @@
 // The board: the chips and their wiring, and what a record does to them.
 // What stands over a chip or two by itself is public for the loop (`records`), which owns the chips and has no board in its hands.
+#![tactic(auto)]
+
 ghost use Rattle.std.specs.Prelude.{◌≡◌, Bool, not, ◌++◌, ◌∷◌, [], ltb};
 ghost use Rattle.bits.specs.Choice.{if◌then◌else◌, ◌and◌};
 ghost use Rattle.icu.specs.declared.Icu.{Icu};

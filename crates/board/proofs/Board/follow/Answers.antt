@@ -1,0 +1,6 @@
+use Rattle.board.specs.Wiring.{lines}
+use borrow.Author.Rules.{rules}
+use Rattle.board.proofs.Board.follow.Goals as goal
+
+pub returns : goal.returns
+returns c = rw (c.lines-next.ensures, c.lines-2.ensures, c.lines.ensures)

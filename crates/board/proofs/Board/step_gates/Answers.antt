@@ -1,0 +1,8 @@
+use Rattle.board.specs.Step.{answered_of}
+use Rattle.timer.specs.Timer.{gates_of}
+use borrow.Author.Rules.{rules}
+use Rattle.board.proofs.Board.step_gates.Goals as goal
+
+pub returns : goal.returns
+unfolding answered_of gates_of
+returns c = rw (c.tell.ensures, c.follow-seen.ensures, c.set_gates-next.ensures)

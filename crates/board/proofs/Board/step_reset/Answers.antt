@@ -1,0 +1,8 @@
+use Rattle.board.specs.Step.{answered_of}
+use Rattle.board.specs.Wiring.{fresh_of}
+use borrow.Author.Rules.{rules}
+use Rattle.board.proofs.Board.step_reset.Goals as goal
+
+pub returns : goal.returns
+unfolding fresh_of answered_of
+returns c = rw (c.tell.ensures, c.reset-next.ensures)

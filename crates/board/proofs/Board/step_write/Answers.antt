@@ -1,0 +1,22 @@
+use Rattle.board.specs.Step.{answered_of}
+use borrow.Author.Tests.{eq-eqb, ne_eqb}
+use borrow.Author.Rules.{rules}
+use Rattle.dma.specs.Registers.{taken}
+use Rattle.board.specs.Operations.{write_of}
+use Rattle.board.proofs.Board.step_write.Goals as goal
+
+pub returns-then-chip-eq0 : goal.returns-then-chip-eq0
+unfolding write_of answered_of
+returns-then-chip-eq0 c = rw (c.write_master.ensures, eq-eqb _ _ c.if-chip-eq0.true)
+
+pub returns-then-chip-eq1 : goal.returns-then-chip-eq1
+unfolding write_of answered_of
+returns-then-chip-eq1 c = rw (c.write_timer.ensures, ne_eqb _ _ c.if-chip-eq0.false, eq-eqb _ _ c.if-chip-eq1.true)
+
+pub returns-then-chip-eq2 : goal.returns-then-chip-eq2
+unfolding write_of answered_of
+returns-then-chip-eq2 c = rw (c.write_dma.ensures, ne_eqb _ _ c.if-chip-eq0.false, ne_eqb _ _ c.if-chip-eq1.false, eq-eqb _ _ c.if-chip-eq2.true)
+
+pub returns : goal.returns
+unfolding write_of answered_of
+returns c = rw (c.write_slave.ensures, ne_eqb _ _ c.if-chip-eq0.false, ne_eqb _ _ c.if-chip-eq1.false, ne_eqb _ _ c.if-chip-eq2.false)

@@ -1,0 +1,14 @@
+use Rattle.board.specs.Step.{answered_of}
+use Rattle.board.specs.Operations.{dma_written}
+use borrow.Author.Tests.{eq-eqb, ne_eqb}
+use borrow.Author.Rules.{rules}
+use Rattle.dma.specs.Registers.{taken}
+use Rattle.board.proofs.Board.write_dma.Goals as goal
+
+pub returns-then-w-eq0 : goal.returns-then-w-eq0
+unfolding dma_written answered_of
+returns-then-w-eq0 c = rw (c.tell.ensures, ← c.write-w.ensures, eq-eqb _ _ c.if-w-eq0.true)
+
+pub returns : goal.returns
+unfolding dma_written answered_of
+returns c = rw (c.tell-2.ensures, ← c.write-w.ensures, ne_eqb _ _ c.if-w-eq0.false)

@@ -1,0 +1,7 @@
+use Rattle.board.specs.Wiring.{lines, lines_at}
+use borrow.Author.Rules.{rules}
+use Rattle.board.proofs.rewire.Goals as goal
+
+pub returns : goal.returns
+unfolding lines_at
+returns c = rw (c.levels_at.ensures, c.lines-next.ensures, c.lines_at-now.ensures, c.lines_at-was.ensures)
