@@ -1,4 +1,6 @@
 // A call: bytes of a tape, in whatever lump they come, are fed to a board over lent memory, and its answers written to a lent buffer.
+#![tactic(auto)]
+
 ghost use Rattle.std.specs.Prelude.{◌≡◌, ◌++◌, ◌+◌, ◌*◌, ◌≤◌, length, take};
 ghost use Rattle.tape.specs.Records.{held_of};
 ghost use Rattle.intake.specs.Ranges.{iw1_good, icu_good, counter_good, timer_good, channel_good, channels_good, dma_good, in_range};

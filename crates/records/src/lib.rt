@@ -1,4 +1,6 @@
 // The loop over the records of a tape.
+#![tactic(auto)]
+
 ghost use Rattle.std.specs.Prelude.{◌≡◌, ◌++◌, ◌∷◌, [], ◌+◌, ◌*◌, ◌≤◌, ◌<◌, length, take, drop, ltb};
 ghost use Rattle.std.proofs.Math.Seq.{paste};
 ghost use Rattle.bits.specs.Choice.{if◌then◌else◌};

@@ -1,0 +1,7 @@
+use Rattle.board.specs.Records.{digits_of, eight_from}
+use borrow.Author.Rules.{rules}
+use Rattle.records.proofs.tape_word.Goals as goal
+
+pub returns : goal.returns
+unfolding eight_from digits_of
+returns c = rw c.pack.ensures

@@ -1,0 +1,7 @@
+use Rattle.tape.specs.Answers.{answer_of}
+use borrow.Author.Rules.{rules}
+use Rattle.records.proofs.tell.Goals as goal
+
+pub returns : goal.returns
+unfolding answer_of
+returns c = rw (c.put.ensures, c.answer-a.ensures)
