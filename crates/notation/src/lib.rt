@@ -1,4 +1,6 @@
 // The notation of lessons and charts: a line read. README.md and docs/LESSON.md describe it.
+#![tactic(auto)]
+
 pub mod check;
 pub mod line;
 pub mod place;

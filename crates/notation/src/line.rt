@@ -3,7 +3,7 @@ use crate::word::Word;
 use crate::{check, word};
 
 // What a line comes to.
-#[derive(Drop)]
+#[derive(Clone, Copy)]
 pub struct Parsed {
     pub kind: u8,
     // the record, or the bytes that stand at the column of a bad line
@@ -348,7 +348,7 @@ fn take_upper(line: &[u8; 1000], n: usize, mut p: Parsed, lower: u8, at: usize) 
 }
 
 // A line that is bytes after its first word: what its record starts with, which of its bytes follow, and what is expected where the first of them is missing, or another.
-#[derive(Drop)]
+#[derive(Clone, Copy)]
 struct Form {
     op: u8,
     group: u8,

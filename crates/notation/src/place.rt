@@ -1,7 +1,7 @@
 // Where a line stands among the others, and whether it may stand there.
 use crate::line::Parsed;
 
-#[derive(Drop)]
+#[derive(Clone, Copy)]
 pub struct Place {
     // lines are taken as they are typed, and not from a lesson
     pub typed: bool,

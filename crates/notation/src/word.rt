@@ -2,7 +2,7 @@
 ghost use Rattle.std.specs.Prelude.{◌<◌};
 
 // A word of the line.
-#[derive(Drop)]
+#[derive(Clone, Copy)]
 pub struct Word {
     pub start: usize,
     // the same where the line has ended, or only a comment is left
@@ -221,7 +221,7 @@ pub fn end_of_words(line: &[u8; 1000], n: usize, at: usize) -> usize {
 }
 
 // The bytes of a memory line, one after another: where the next stands, whether that is inside a text, and the byte that was had last.
-#[derive(Drop)]
+#[derive(Clone, Copy)]
 pub struct Bytes {
     pub at: usize,
     pub inside: bool,

@@ -3,9 +3,11 @@
 // The text of them all is the page docs/CARDS.md. A card is a title, a line that starts with ##, and the lines after it. A title has the names that the card is
 // asked for by, a colon, and what the card is about. The names stand there alone, and the index is the titles. Lines of fewer than four characters belong to the
 // page. A card has at most 23 lines of at most 79 columns, and sets nothing in columns: it is read on a Braille line, too.
+#![tactic(auto)]
+
 mod cards;
 
-use libc::STDOUT_FILENO;
+use report::STDOUT;
 
 // Where printing is. The first three are what `print_card` answers: the card is printed, no title had the word so far, a write failed. Then: the lines that come
 // are the card's; the titles are wanted; the page is.
@@ -103,7 +105,7 @@ fn print_title(title: &[u8], word: &[u8], state: u8) -> u8 {
 }
 
 fn print(text: &[u8], state: u8) -> u8 {
-    if io::write_all(STDOUT_FILENO, text) {
+    if io::write_all(STDOUT, text) {
         return state;
     }
     UNWRITTEN

@@ -2,11 +2,11 @@
 // the records and the second board's answers.
 use crate::show;
 use crate::stretch::{Answers, Tape};
-use libc::STDOUT_FILENO;
+use report::STDOUT;
 
 // The counts, in the order in which they are printed: records; calls of the first board, of them those refused with 7, and of these those on a board
 // with a field out of its range; statuses 0 to 6; operations 0 to 6, and any other; kinds of DMA cycle; cases of register 0; modes by words.
-#[derive(Drop)]
+#[derive(Clone, Copy)]
 pub struct Tally {
     pub n: [u64; 32],
 }
@@ -131,7 +131,7 @@ pub fn count_answers(tally: Tally, tape: &Tape, answers: &Answers) -> Tally {
 pub fn print_all(tally: Tally) -> bool {
     let numbers = tally.n;
     show::fill(
-        STDOUT_FILENO,
+        STDOUT,
         b"records: %
 calls: %
 calls refused with 7: %

@@ -1,4 +1,6 @@
 // The parts of the program `duel` that do not touch the first board: tapes for both boards, the counts and what is printed.
+#![tactic(auto)]
+
 pub mod counts;
 pub mod modes;
 pub mod places;

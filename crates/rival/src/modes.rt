@@ -1,10 +1,10 @@
 // What the counters do, mode by mode: counted by the second board before and after each record, and by its answer. docs/DUEL.md has the words.
 use crate::show;
-use libc::STDOUT_FILENO;
+use report::STDOUT;
 use second::{State, Watched};
 
 // For each mode five counts, in the order in which they are printed.
-#[derive(Drop)]
+#[derive(Clone, Copy)]
 pub struct Modes {
     n: [u64; 32],
 }
@@ -139,7 +139,7 @@ pub fn count_record(
 pub fn print_all(modes: Modes) -> bool {
     let numbers = modes.n;
     show::fill(
-        STDOUT_FILENO,
+        STDOUT,
         b"mode 0: pulses %, loads %, triggers %, ends %, rewrites %
 mode 1: pulses %, loads %, triggers %, ends %, rewrites %
 mode 2: pulses %, loads %, triggers %, ends %, rewrites %

@@ -5,11 +5,11 @@ ghost use Rattle.std.specs.Prelude.{◌<◌};
 
 use crate::counts::Tally;
 use crate::{counts, show};
-use libc::STDOUT_FILENO;
+use report::STDOUT;
 use second::{Moving, State};
 
 // The counts, in the order in which they are printed.
-#[derive(Drop)]
+#[derive(Clone, Copy)]
 pub struct Places {
     // Units of a byte: four for each direction.
     bytes: Tally,
@@ -165,7 +165,7 @@ pub fn otherwise(places: Places) -> u64 {
 
 fn print_numbers(text: &[u8], tally: Tally) -> bool {
     let numbers = tally.n;
-    show::fill(STDOUT_FILENO, text, numbers)
+    show::fill(STDOUT, text, numbers)
 }
 
 pub fn print_all(places: Places) -> bool {

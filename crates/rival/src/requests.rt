@@ -1,11 +1,11 @@
 // What becomes of requests: acknowledges by why INT is low, if it is, and requests of edge trigger that a fall withdrew. Counted by the second board before
 // and after each record, and by its answer. docs/DUEL.md has the words.
 use crate::show;
-use libc::STDOUT_FILENO;
+use report::STDOUT;
 use second::{Asking, State};
 
 // The counts, in the order in which they are printed: acknowledges, one for each cause that the second board has; then requests that a fall withdrew.
-#[derive(Drop)]
+#[derive(Clone, Copy)]
 pub struct Requests {
     n: [u64; 32],
 }
@@ -109,7 +109,7 @@ pub fn count_record(
 pub fn print_all(requests: Requests) -> bool {
     let numbers = requests.n;
     show::fill(
-        STDOUT_FILENO,
+        STDOUT,
         b"acknowledges with INT high: %
 with INT low, nothing asks: %
 with INT low, what asks is masked: %

@@ -1,8 +1,8 @@
 // Printing.
-use libc::STDOUT_FILENO;
+use report::STDOUT;
 
 pub fn print(text: &[u8]) -> bool {
-    io::write_all(STDOUT_FILENO, text)
+    io::write_all(STDOUT, text)
 }
 
 fn write_byte(out: i32, one: &[u8; 1]) -> bool {
@@ -55,7 +55,7 @@ pub fn print_with(text: &[u8], a: u64, b: u64, c: u64, d: u64) -> bool {
     numbers[1] = b;
     numbers[2] = c;
     numbers[3] = d;
-    fill(STDOUT_FILENO, text, numbers)
+    fill(STDOUT, text, numbers)
 }
 
 pub fn long(b: u8) -> u64 {

@@ -1,11 +1,11 @@
 // What becomes of the slave on line 7: acknowledges by what the two interrupt chips are set up as and by who answers, IW3, and how the slave moves line
 // 7. Counted by the second board before and after each record, and by its answer. docs/DUEL.md has the words.
 use crate::show;
-use libc::STDOUT_FILENO;
+use report::STDOUT;
 use second::{Joined, State};
 
 // The counts, in the order in which they are printed.
-#[derive(Drop)]
+#[derive(Clone, Copy)]
 pub struct Slave {
     n: [u64; 32],
 }
@@ -167,7 +167,7 @@ pub fn count_record(
 pub fn print_all(slave: Slave) -> bool {
     let numbers = slave.n;
     show::fill(
-        STDOUT_FILENO,
+        STDOUT,
         b"acknowledges, master not ready: slave not ready %, single %, extended %
 master single: slave not ready %, single %, extended %
 master extended: slave not ready %, single %

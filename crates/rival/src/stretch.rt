@@ -132,7 +132,7 @@ pub fn copy_memory(from: &Memory, to: &mut Memory) {
 }
 
 // The second board under way, and what became of its counters, its requests, its slave and its units.
-#[derive(Drop)]
+#[derive(Clone, Copy)]
 pub struct Ran {
     pub s: State,
     pub modes: Modes,

@@ -7,7 +7,7 @@
 //
 // Addresses lie near 0, near the memory's end and near FFFFFFH. Most channels begin by turning the wide bus on, and more than half of the modes are by words.
 
-#[derive(Drop)]
+#[derive(Clone, Copy)]
 pub struct Maker {
     pub seed: u32,
     // 0 none, 1 interrupt chip, 2 counter, 3 channel, 4 reads of a counter, 5 a reset of the DMA chip and then 3, 6 a counter that is run, 7 both
@@ -21,7 +21,7 @@ pub struct Maker {
 }
 
 // A record, and the maker after it.
-#[derive(Drop)]
+#[derive(Clone, Copy)]
 pub struct Drawn {
     pub maker: Maker,
     pub record: [u8; 8],

@@ -4,6 +4,8 @@
 //
 // The whole board is one array of 112 numbers, which functions take and give back by value. What a record may be is read off tables, every refusal
 // is decided before anything changes, and an advance is worked out by division, with no loop over its pulses.
+#![tactic(auto)]
+
 ghost use Rattle.std.specs.Prelude.{◌<◌};
 
 pub type State = [u32; 112];
@@ -243,7 +245,7 @@ fn set_channel(s: State, channel: u32, f: usize, x: u32) -> State {
 }
 
 // What a record that is taken leaves: the board, the answer's data and its payload in three words, and 1 where OUT0 rose within an advance.
-#[derive(Drop)]
+#[derive(Clone, Copy)]
 struct Effect {
     s: State,
     data: u32,
@@ -618,7 +620,7 @@ fn cause(s: State, at: usize) -> u32 {
 }
 
 // What the duel counts by: the master's requests as they stand.
-#[derive(Drop)]
+#[derive(Clone, Copy)]
 pub struct Asking {
     // Why INT is low.
     pub cause: u32,
@@ -640,7 +642,7 @@ pub fn who_asks(s: State) -> Asking {
 }
 
 // And: both chips as they stand.
-#[derive(Drop)]
+#[derive(Clone, Copy)]
 pub struct Joined {
     // What each counts as, and 1 where it awaits IW3.
     pub master: u32,
@@ -784,7 +786,7 @@ fn timer_read(s: State, c: u32) -> Effect {
 }
 
 // The board after pulses of one counter, and how many made its OUT rise.
-#[derive(Drop)]
+#[derive(Clone, Copy)]
 struct Ticked {
     s: State,
     rises: u32,
@@ -1000,7 +1002,7 @@ fn advance(s: State, n: u32) -> Effect {
 }
 
 // What the duel counts by: a counter as it stands.
-#[derive(Drop)]
+#[derive(Clone, Copy)]
 pub struct Watched {
     // 0 to 5, or 255 with no mode.
     pub mode: u32,
@@ -1314,7 +1316,7 @@ fn cycle(s: State, ended: bool, device: u32, memory: &mut [u8]) -> Effect {
 }
 
 // What the duel counts units by: how a channel modulo 4 moves them.
-#[derive(Drop)]
+#[derive(Clone, Copy)]
 pub struct Moving {
     // 0 verify, 1 device to memory, 2 memory to device.
     pub direction: u32,
@@ -1433,7 +1435,7 @@ fn levels(s: State) -> u32 {
 }
 
 // The board after a record, and the record's answer.
-#[derive(Drop)]
+#[derive(Clone, Copy)]
 pub struct Answered {
     pub s: State,
     pub answer: [u8; 16],

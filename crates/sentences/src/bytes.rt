@@ -1,7 +1,7 @@
 // A record and an answer by their bytes. An element of an array costs the prover much more than a field, so the bytes that choose words are taken out once.
 use crate::number;
 
-#[derive(Drop)]
+#[derive(Clone, Copy)]
 pub struct Record {
     pub op: u8,
     // a port, a group of lines, or the END of a cycle
@@ -73,7 +73,7 @@ impl Record {
 }
 
 // The names are those of a read, an acknowledge and a DMA cycle; in the answer to an advance the last twelve bytes are the rises of OUT0, OUT1 and OUT2.
-#[derive(Drop)]
+#[derive(Clone, Copy)]
 pub struct Answer {
     pub status: u8,
     pub op: u8,

@@ -12,13 +12,15 @@
 //   {BSWnone|one|two}  the words for that number, and nothing where there are none; a choice holds no other choice
 //   &0 and &1  two numbers beside the facts
 //   ^     a bar, which a sentence cannot have by itself
+#![tactic(auto)]
+
 pub mod bytes;
 pub mod listing;
 pub mod text;
 pub mod which;
 
 use crate::text::Text;
-use libc::{STDERR_FILENO, STDOUT_FILENO};
+use report::{STDERR, STDOUT};
 
 // A record in the notation, and below it what a record asks for, in the chips' own words. The facts: 0 to 7 are the record, 8 the DMA channel that is
 // selected, 9 whether its base is, A the byte of a count (1 the low one, 2 the high one), B whether the count is latched. Of the port's interrupt chip C is what
@@ -378,7 +380,7 @@ pub fn message(n: u8, first: u64, second: u64) -> Text {
 
 pub fn print_heads() -> bool {
     io::write_all(
-        STDOUT_FILENO,
+        STDOUT,
         b" line pulses asked                       answer                          OUT INT\n",
     )
 }
@@ -386,14 +388,14 @@ pub fn print_heads() -> bool {
 // Of answers that stand by themselves.
 pub fn print_answer_heads() -> bool {
     io::write_all(
-        STDOUT_FILENO,
+        STDOUT,
         b"  no.        asked                       answer                          OUT INT\n",
     )
 }
 
 pub fn print_usage() {
     io::write_all(
-        STDERR_FILENO,
+        STDERR,
         b"usage: lesson FILE..              runs lessons
        lesson try [FILE]          a line in, its row out
        lesson card [PORT or WORD] what each bit of a port means
@@ -457,7 +459,7 @@ fn fill(table: &[u8], n: u8, facts: [u8; 16], first: u64, second: u64) -> Text {
 }
 
 // A sentence under way.
-#[derive(Drop)]
+#[derive(Clone, Copy)]
 struct Filling {
     text: Text,
     // the words of a choice to pass over before some are said; 255 once they are

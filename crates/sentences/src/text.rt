@@ -1,8 +1,8 @@
 // A short text, built piece by piece, and the columns that it is laid out in.
-use libc::{STDERR_FILENO, STDOUT_FILENO};
+use report::{STDERR, STDOUT};
 
 // What does not fit is left off.
-#[derive(Drop)]
+#[derive(Clone, Copy)]
 pub struct Text {
     pub bytes: [u8; 400],
     pub n: usize,
@@ -229,7 +229,7 @@ impl Text {
     pub fn print(self) -> bool {
         let bytes = self.bytes;
         let n = self.n;
-        write_array(STDOUT_FILENO, &bytes, n)
+        write_array(STDOUT, &bytes, n)
     }
 
     pub fn print_line(self) -> bool {
@@ -240,7 +240,7 @@ impl Text {
     pub fn complain(self) {
         let bytes = self.bytes;
         let n = self.n;
-        write_array(STDERR_FILENO, &bytes, n);
+        write_array(STDERR, &bytes, n);
     }
 }
 
