@@ -1,10 +1,12 @@
 // cards: prints every card, as the page docs/CARDS.md has them. Its file `stdout` is that page, so the gate holds the cards that `lesson` prints and the page
 // together.
-use libc::{STDERR_FILENO, STDOUT_FILENO};
+#![tactic(auto)]
+
+use report::{STDERR, STDOUT};
 
 fn tell_usage() -> u8 {
     io::write_all(
-        STDERR_FILENO,
+        STDERR,
         b"usage: cards    prints all cards, which are the page docs/CARDS.md; one of them: ./run lesson card 2A\n",
     );
     report::USAGE
@@ -12,7 +14,7 @@ fn tell_usage() -> u8 {
 
 fn print_page() -> u8 {
     if io::write_all(
-        STDOUT_FILENO,
+        STDOUT,
         b"# The cards
 
 What each bit of a port means, a screen for each port or word of the chips. `./run lesson card 2A` prints one of them, `./run lesson card` the list:

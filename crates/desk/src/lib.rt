@@ -1,5 +1,7 @@
 // A lesson under way, or lines as they are typed: what is to be done next, and what is told of it. The board is elsewhere; its chips are shown to the desk before and after each
 // record, and its memory is lent to it.
+#![tactic(auto)]
+
 use notation::line::Parsed;
 use reader::lines::Lines;
 use reader::tally::Tally;
@@ -21,7 +23,7 @@ const PUT: u8 = 3;
 
 const COMPARE: u8 = 4;
 
-#[derive(Drop)]
+#[derive(Clone, Copy)]
 pub struct Desk {
     // what is done with the lesson, and whether a guess is still asked for somewhere: then rows say no more than the answers
     mode: u8,

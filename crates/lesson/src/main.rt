@@ -1,6 +1,8 @@
 // lesson FILE..: runs each lesson from reset and prints a row for each record; lesson listing FILE.. prints its comments too; lesson try takes lines as they are typed.
 // lesson assemble | list | explain [FILE]: filters, on a file or on standard input; lesson pieces FILE.. shows what they make of a lesson.
 // lesson card [PORT]: what each bit of a port means.
+#![tactic(auto)]
+
 mod run;
 
 use reader::course::Course;

@@ -1,13 +1,13 @@
 // What is printed of a line beside its row: its comment, and a card.
 use crate::output;
-use libc::STDOUT_FILENO;
 use notation::line::Parsed;
+use report::STDOUT;
 use sentences::text::Text;
 
 // The comment of a line, or an empty line, as it stands there.
 pub fn print(line: &[u8], n: usize, p: Parsed) -> bool {
     if n == 0 {
-        return io::write_all(STDOUT_FILENO, b"\n");
+        return io::write_all(STDOUT, b"\n");
     }
     let from = p.at;
     if line.len() < n {
@@ -20,7 +20,7 @@ pub fn print(line: &[u8], n: usize, p: Parsed) -> bool {
     if n <= at {
         return true;
     }
-    report::print_name(STDOUT_FILENO, &line[at..n]) && io::write_all(STDOUT_FILENO, b"\n")
+    report::print_name(STDOUT, &line[at..n]) && io::write_all(STDOUT, b"\n")
 }
 
 // Where a comment starts, after the words of a line.

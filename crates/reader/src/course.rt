@@ -1,6 +1,6 @@
 // The arguments, one after another: words start a command, and files belong to the last one. What is run on the board is due, and done elsewhere.
+use crate::source::Source;
 use crate::{comments, filters, output, usage};
-use libc::STDIN_FILENO;
 
 // How far the arguments are taken.
 #[derive(Drop)]
@@ -14,18 +14,18 @@ pub struct Course {
     pub status: u8,
     // what is to be done on the board with a text that is open; FILE for nothing
     pub due: u8,
-    pub fd: i32,
+    pub source: Source,
 }
 
 impl Course {
-    pub fn start(checks: bool) -> Course {
+    pub fn start(rt: &HostRuntime, checks: bool) -> Course {
         Course {
             checks: checks,
             mode: usage::RUN,
             has_file: false,
             status: report::WELL,
             due: usage::FILE,
-            fd: STDIN_FILENO,
+            source: Source::input(rt),
         }
     }
 
@@ -34,60 +34,63 @@ impl Course {
         self
     }
 
-    pub fn take_word(self, word: &[u8]) -> Course {
+    pub fn take_word(self, rt: &HostRuntime, word: &[u8]) -> Course {
         let mode = usage::command(word);
         if mode == usage::FILE {
-            return self.take_file(word);
+            return self.take_file(rt, word);
         }
-        let mut next = self.end_command();
+        let mut next = self.end_command(rt);
         next.mode = mode;
         next.has_file = false;
         next
     }
 
-    fn take_file(mut self, name: &[u8]) -> Course {
+    fn take_file(mut self, rt: &HostRuntime, name: &[u8]) -> Course {
         let had_file = self.has_file;
         self.has_file = true;
         if self.checks {
-            return self.with(usage::check_file(self.mode, had_file, name));
+            let checked = usage::check_file(rt, self.mode, had_file, name);
+            return self.with(checked);
         }
         if self.mode == usage::CARD {
             return self.with(end_card(comments::print_card(name)));
         }
-        let fd = os::open_read(name);
-        if fd < 0 {
-            report::fail(name);
-            return self.with(report::FAILED);
+        match Source::open(rt, name) {
+            Ok(source) => self.take_text(rt, source, name),
+            Err(e) => {
+                report::fail_of(name, &e);
+                self.with(report::FAILED)
+            }
         }
-        self.take_text(fd, name)
     }
 
     // No more files belong to the command under way. One that had none takes standard input, or all cards.
-    pub fn end_command(self) -> Course {
+    pub fn end_command(self, rt: &HostRuntime) -> Course {
         if self.has_file {
             return self;
         }
         if self.checks {
-            return self.with(usage::check_no_file(self.mode));
+            let checked = usage::check_no_file(self.mode);
+            return self.with(checked);
         }
         if self.mode == usage::CARD {
             return self.with(end_card(comments::print_index()));
         }
         if usage::takes_one(self.mode) {
-            return self.take_text(STDIN_FILENO, b"lesson: standard input");
+            return self.take_text(rt, Source::input(rt), b"lesson: standard input");
         }
         self
     }
 
     // A text that is open.
-    fn take_text(mut self, fd: i32, path: &[u8]) -> Course {
+    fn take_text(mut self, rt: &HostRuntime, source: Source, path: &[u8]) -> Course {
         let mode = self.mode;
-        self.fd = fd;
         match mode {
-            usage::ASSEMBLE => self.end_text(filters::assemble(fd, path)),
-            usage::LIST => self.end_text(filters::tell(filters::LIST, fd, path)),
-            usage::EXPLAIN => self.end_text(filters::tell(filters::EXPLAIN, fd, path)),
+            usage::ASSEMBLE => self.end_text(rt, filters::assemble(rt, &source, path)),
+            usage::LIST => self.end_text(rt, filters::tell(filters::LIST, &source, path)),
+            usage::EXPLAIN => self.end_text(rt, filters::tell(filters::EXPLAIN, &source, path)),
             _ => {
+                self.source = source;
                 self.due = mode;
                 self
             }
@@ -95,11 +98,9 @@ impl Course {
     }
 
     // The text is done with.
-    pub fn end_text(mut self, status: u8) -> Course {
+    pub fn end_text(mut self, rt: &HostRuntime, status: u8) -> Course {
         self.due = usage::FILE;
-        if self.has_file {
-            libc::close(self.fd);
-        }
+        self.source = Source::input(rt);
         self.with(status)
     }
 

@@ -1,5 +1,7 @@
 // What needs no board: a lesson that is checked or made into a tape, a tape or answers that are put into words.
+use crate::held::Held;
 use crate::lines::Lines;
+use crate::source::Source;
 use crate::{held, lines, output, pieces, usage};
 use notation::line::Parsed;
 use notation::word;
@@ -49,14 +51,14 @@ fn fault(records: u64, bad: u64, stopped: bool, written: u8) -> u8 {
 }
 
 // A lesson that was read to its end: how that went, and how many guesses it asks for.
-#[derive(Drop)]
+#[derive(Clone, Copy)]
 pub struct Checked {
     pub status: u8,
     pub questions: u64,
 }
 
 // Whether each line of a lesson is good, and there is a record.
-fn check(fd: i32, path: &[u8]) -> Checked {
+fn check(source: &Source, path: &[u8]) -> Checked {
     let mut line = [0u8; 1000];
     let mut lump = [0u8; 65536];
     let mut lines = Lines::start(false, lines::TOLD);
@@ -64,7 +66,7 @@ fn check(fd: i32, path: &[u8]) -> Checked {
     let mut questions: u64 = 0;
     let mut turns = u64::MAX;
     while turns > 0 {
-        let t = lines::take(fd, path, &mut line, &mut lump, lines);
+        let t = lines::take(source, path, &mut line, &mut lump, lines);
         lines = t.lines;
         if !lines.more {
             return Checked {
@@ -80,18 +82,18 @@ fn check(fd: i32, path: &[u8]) -> Checked {
 }
 
 // A lesson is read twice: here to see that each line is good, and then to run it. Its title is printed if it is. Lines that are typed have no title.
-pub fn prepare(mode: u8, fd: i32, path: &[u8]) -> Checked {
+pub fn prepare(mode: u8, source: &Source, path: &[u8]) -> Checked {
     if mode == usage::TRY {
         return printed(sentences::print_heads(), 0);
     }
-    if !lines::rewind(fd, path) {
+    if !lines::rewind(source, path) {
         return ended(report::FAILED);
     }
-    let checked = check(fd, path);
+    let checked = check(source, path);
     if checked.status != report::WELL {
         return checked;
     }
-    if !lines::rewind(fd, path) {
+    if !lines::rewind(source, path) {
         return ended(report::FAILED);
     }
     printed(output::print_title(path), checked.questions)
@@ -126,28 +128,28 @@ fn count(n: u64, more: bool) -> u64 {
 #[derive(Drop)]
 struct Tape {
     records: u64,
-    file: i32,
+    file: Held,
 }
 
 // A lesson as a tape. Only that of a good one goes out.
-pub fn assemble(fd: i32, path: &[u8]) -> u8 {
+pub fn assemble(rt: &HostRuntime, source: &Source, path: &[u8]) -> u8 {
     let mut line = [0u8; 1000];
     let mut lump = [0u8; 65536];
     let mut store = [0u8; 65536];
     let mut tape = Tape {
         records: 0,
-        file: held::NONE,
+        file: Held::None,
     };
     let mut lines = Lines::start(false, lines::TOLD);
     let mut turns = u64::MAX;
     while turns > 0 {
-        let t = lines::take(fd, path, &mut line, &mut lump, lines);
+        let t = lines::take(source, path, &mut line, &mut lump, lines);
         lines = t.lines;
         if !lines.more {
             return end_tape(path, lines, tape, &store);
         }
-        tape = hold_line(&line, t.parsed, tape, &mut store, lines.bad);
-        if tape.file == held::LOST {
+        tape = hold_line(rt, &line, t.parsed, tape, &mut store, lines.bad);
+        if tape.file.is_lost() {
             return report::FAILED;
         }
         turns -= 1;
@@ -159,26 +161,33 @@ fn end_tape(path: &[u8], lines: Lines, tape: Tape, store: &[u8; 65536]) -> u8 {
     let judged = judge(path, lines, tape.records, 1);
     let mut status = judged;
     if judged == report::WELL {
-        status = held::write_all(tape.file, tape.records, store);
+        status = held::write_all(&tape.file, tape.records, store);
     }
     held::close(tape.file);
     status
 }
 
 // The records of a line; after a bad line there will be no tape.
-fn hold_line(line: &[u8; 1000], p: Parsed, tape: Tape, store: &mut [u8; 65536], bad: u64) -> Tape {
+fn hold_line(
+    rt: &HostRuntime,
+    line: &[u8; 1000],
+    p: Parsed,
+    tape: Tape,
+    store: &mut [u8; 65536],
+    bad: u64,
+) -> Tape {
     let mut next = tape;
     if p.kind != Parsed::RECORD {
         return next;
     }
     if 0 < bad {
-        next.records = text::more(tape.records);
+        next.records = text::more(next.records);
         return next;
     }
     let mut left = p.times;
     while left > 0 {
-        next = hold_once(line, p, next, store);
-        if next.file == held::LOST {
+        next = hold_once(rt, line, p, next, store);
+        if next.file.is_lost() {
             return next;
         }
         left -= 1;
@@ -187,18 +196,24 @@ fn hold_line(line: &[u8; 1000], p: Parsed, tape: Tape, store: &mut [u8; 65536], 
 }
 
 // The record once, or its text.
-fn hold_once(line: &[u8; 1000], p: Parsed, tape: Tape, store: &mut [u8; 65536]) -> Tape {
+fn hold_once(
+    rt: &HostRuntime,
+    line: &[u8; 1000],
+    p: Parsed,
+    tape: Tape,
+    store: &mut [u8; 65536],
+) -> Tape {
     let mut next = tape;
     let mut at = p.from;
     while at < 1000 {
         let r = record_of(line, p, at);
-        next.file = held::hold_record(next.file, next.records, r.bytes(), store);
+        next.file = held::hold_record(rt, next.file, next.records, r.bytes(), store);
         next.records = text::more(next.records);
         at += 1;
         if p.to <= at {
             return next;
         }
-        if next.file == held::LOST {
+        if next.file.is_lost() {
             return next;
         }
     }
@@ -206,7 +221,7 @@ fn hold_once(line: &[u8; 1000], p: Parsed, tape: Tape, store: &mut [u8; 65536]) 
 }
 
 // A tape or answers under way: the one that is not whole yet.
-#[derive(Drop)]
+#[derive(Clone, Copy)]
 struct Pieces {
     mode: u8,
     held: usize,
@@ -264,27 +279,28 @@ fn take_bytes(pieces: Pieces, lump: &[u8]) -> Pieces {
 }
 
 // One read.
-fn take_lump(fd: i32, path: &[u8], pieces: Pieces) -> Pieces {
+fn take_lump(source: &Source, path: &[u8], pieces: Pieces) -> Pieces {
     let mut lump = io::large_buffer();
-    let got = libc::read(fd, &mut lump);
     let mut next = pieces;
-    if got < 0 {
-        report::fail(path);
-        next.more = false;
-        next.status = report::FAILED;
-        return next;
-    }
-    if got == 0 {
+    let n = match source.read(&mut lump) {
+        Ok(n) => n,
+        Err(e) => {
+            report::fail_of(path, &e);
+            next.more = false;
+            next.status = report::FAILED;
+            return next;
+        }
+    };
+    if n == 0 {
         next.more = false;
         next.status = tell_cut(path, pieces.held, pieces.records);
         return next;
     }
-    let n = io::count(got, &lump);
     take_bytes(pieces, &lump[..n])
 }
 
 // A tape or answers, put into words.
-pub fn tell(mode: u8, fd: i32, path: &[u8]) -> u8 {
+pub fn tell(mode: u8, source: &Source, path: &[u8]) -> u8 {
     let mut next = Pieces {
         mode: mode,
         held: 0,
@@ -305,7 +321,7 @@ pub fn tell(mode: u8, fd: i32, path: &[u8]) -> u8 {
         if !next.more {
             return next.status;
         }
-        next = take_lump(fd, path, next);
+        next = take_lump(source, path, next);
         turns -= 1;
     }
     report::FAILED

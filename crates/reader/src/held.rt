@@ -1,27 +1,51 @@
 // A tape is held back until its whole lesson is known to be good: up to 65,536 bytes in a buffer, and what came before these in a temporary file.
 use crate::output;
-use libc::STDOUT_FILENO;
+use report::STDOUT;
 use sentences::text;
+use std::fs;
+use std::fs::{File, OpenOptions};
+use std::io::{Error, ErrorKind, Seek, SeekFrom};
+use std::os::fd::AsRawFd;
+use std::os::unix::fs::OpenOptionsExt;
+use std_io::io::last_error;
 
-// In the place of the file's descriptor: there is no file, or it could not be made or written.
-pub const NONE: i32 = -1;
+// The file, or in its place: there is no file, or it could not be made or written.
+#[derive(Drop)]
+pub enum Held {
+    None,
+    Lost,
+    File(File),
+}
 
-pub const LOST: i32 = -2;
+impl Held {
+    pub fn is_lost(&self) -> bool {
+        match self {
+            Held::Lost => true,
+            _ => false,
+        }
+    }
+}
 
-// Holds a record that comes after some others, and answers the file's descriptor.
-pub fn hold_record(file: i32, before: u64, r: [u8; 8], tape: &mut [u8; 65536]) -> i32 {
-    let next = make_room(file, before, tape);
+// Holds a record that comes after some others, and answers the file.
+pub fn hold_record(
+    rt: &HostRuntime,
+    file: Held,
+    before: u64,
+    r: [u8; 8],
+    tape: &mut [u8; 65536],
+) -> Held {
+    let next = make_room(rt, file, before, tape);
     put_record(tape, (before % 8192 * 8) as usize, r);
     next
 }
 
 // A full buffer goes to the end of the file.
-fn make_room(file: i32, before: u64, tape: &[u8; 65536]) -> i32 {
+fn make_room(rt: &HostRuntime, file: Held, before: u64, tape: &[u8; 65536]) -> Held {
     if before == 0 {
         return file;
     }
     if before % 8192 == 0 {
-        return spill(file, tape);
+        return spill(rt, file, tape);
     }
     file
 }
@@ -35,62 +59,92 @@ fn put_record(tape: &mut [u8; 65536], at: usize, r: [u8; 8]) {
     }
 }
 
-fn fail_file() -> i32 {
-    os::fail(b"lesson: a temporary file in /tmp");
-    LOST
+fn fail_file(error: &Error) -> Held {
+    report::fail_with(b"lesson: a temporary file in /tmp", error);
+    Held::Lost
 }
 
 // The file is made where there is none yet.
-fn spill(file: i32, tape: &[u8; 65536]) -> i32 {
-    if file < 0 {
-        return append(make_file(), tape);
+fn spill(rt: &HostRuntime, file: Held, tape: &[u8; 65536]) -> Held {
+    match file {
+        Held::File(file) => append(file, tape),
+        _ => match make_file(rt) {
+            Held::File(file) => append(file, tape),
+            lost => lost,
+        },
     }
-    append(file, tape)
 }
 
-fn append(file: i32, tape: &[u8; 65536]) -> i32 {
-    if file < 0 {
-        return file;
+fn append(file: File, tape: &[u8; 65536]) -> Held {
+    if write_tape(file.as_raw_fd(), tape, 65536) {
+        return Held::File(file);
     }
-    if write_tape(file, tape, 65536) {
-        return file;
-    }
-    let lost = fail_file();
-    libc::close(file);
-    lost
+    fail_file(&last_error())
 }
 
 // The file has no name any more once it is open, so that nothing of it is left over however the program ends.
-fn make_file() -> i32 {
-    let mut name = *b"/tmp/lesson-XXXXXX";
-    let file = os::create_temp(&mut name);
-    if file < 0 {
-        return fail_file();
+fn make_file(rt: &HostRuntime) -> Held {
+    match open_unnamed(rt) {
+        Ok(file) => keep_apart(file),
+        Err(e) => fail_file(&e),
     }
-    if os::unlink(&name) < 0 {
-        let lost = fail_file();
-        libc::close(file);
-        return lost;
+}
+
+// Names are tried until one is new.
+fn open_unnamed(rt: &HostRuntime) -> Result<File, Error> {
+    for k in 0..1000000 {
+        let name = name_of(k);
+        match open_new(rt, &name) {
+            Ok(file) => return Ok(file),
+            Err(e) => {
+                if e.kind() != ErrorKind::AlreadyExists {
+                    return Err(e);
+                }
+            }
+        }
     }
-    keep_apart(file)
+    Err(Error::from(ErrorKind::AlreadyExists))
+}
+
+fn open_new(rt: &HostRuntime, name: &[u8]) -> Result<File, Error> {
+    match std::str::from_utf8(name) {
+        Ok(path) => {
+            let file = OpenOptions::new()
+                .read(true)
+                .write(true)
+                .create_new(true)
+                .mode(0o600)
+                .open(rt, path)?;
+            fs::remove_file(rt, path)?;
+            Ok(file)
+        }
+        Err(_) => Err(Error::from(ErrorKind::InvalidInput)),
+    }
+}
+
+fn name_of(k: u32) -> [u8; 18] {
+    let mut name = *b"/tmp/lesson-000000";
+    name[12] = b'0' + (k / 100000 % 10) as u8;
+    name[13] = b'0' + (k / 10000 % 10) as u8;
+    name[14] = b'0' + (k / 1000 % 10) as u8;
+    name[15] = b'0' + (k / 100 % 10) as u8;
+    name[16] = b'0' + (k / 10 % 10) as u8;
+    name[17] = b'0' + (k % 10) as u8;
+    name
 }
 
 // Where standard input, output or error is closed, the file takes its place, and what is written there would go into it.
-fn keep_apart(file: i32) -> i32 {
-    if file <= libc::STDERR_FILENO {
-        libc::close(file);
+fn keep_apart(file: File) -> Held {
+    if file.as_raw_fd() <= report::STDERR {
         sentences::message(0x25, 0, 0).put(b'\n').complain();
-        return LOST;
+        return Held::Lost;
     }
-    file
+    Held::File(file)
 }
 
 // The file goes when it is closed.
-pub fn close(file: i32) {
-    if file < 0 {
-        return;
-    }
-    libc::close(file);
+pub fn close(file: Held) {
+    let _closed = file;
 }
 
 // The array as a slice: its length is known by its type here.
@@ -99,7 +153,7 @@ fn write_tape(fd: i32, tape: &[u8; 65536], n: usize) -> bool {
 }
 
 // The whole tape, of some records, to standard output.
-pub fn write_all(file: i32, records: u64, tape: &[u8; 65536]) -> u8 {
+pub fn write_all(file: &Held, records: u64, tape: &[u8; 65536]) -> u8 {
     if records == 0 {
         return report::WELL;
     }
@@ -108,21 +162,25 @@ pub fn write_all(file: i32, records: u64, tape: &[u8; 65536]) -> u8 {
     if copied != report::WELL {
         return copied;
     }
-    if write_tape(STDOUT_FILENO, tape, (last % 8192 * 8 + 8) as usize) {
+    if write_tape(STDOUT, tape, (last % 8192 * 8 + 8) as usize) {
         return report::WELL;
     }
     output::fail()
 }
 
 // So many full buffers.
-fn copy_file(file: i32, buffers: u64) -> u8 {
+fn copy_file(held: &Held, buffers: u64) -> u8 {
     if buffers == 0 {
         return report::WELL;
     }
-    libc::lseek(file, 0, libc::SEEK_SET);
+    let Held::File(file) = held else {
+        return tell_unread();
+    };
+    let mut reader = file;
+    let _ = reader.seek(SeekFrom::Start(0));
     let mut k = 0;
     while k < buffers {
-        let copied = copy_buffer(file);
+        let copied = copy_buffer(file.as_raw_fd());
         if copied != report::WELL {
             return copied;
         }
@@ -134,11 +192,15 @@ fn copy_file(file: i32, buffers: u64) -> u8 {
 fn copy_buffer(file: i32) -> u8 {
     let mut tape = io::large_buffer();
     if io::read_full(file, &mut tape) < 65536 {
-        sentences::message(0x24, 0, 0).put(b'\n').complain();
-        return report::FAILED;
+        return tell_unread();
     }
-    if write_tape(STDOUT_FILENO, &tape, 65536) {
+    if write_tape(STDOUT, &tape, 65536) {
         return report::WELL;
     }
     output::fail()
+}
+
+fn tell_unread() -> u8 {
+    sentences::message(0x24, 0, 0).put(b'\n').complain();
+    report::FAILED
 }

@@ -1,16 +1,17 @@
-// The lines of a text, one after another, from a descriptor, as what they come to. A bad line is told, and passed over.
+// The lines of a text, one after another, from a file or standard input, as what they come to. A bad line is told, and passed over.
 use crate::output;
-use libc::STDERR_FILENO;
+use crate::source::Source;
 use notation::line;
 use notation::line::Parsed;
 use notation::place::Place;
+use report::STDERR;
 use sentences::text;
 
 // How many bad lines of a lesson are told: reading stops at the last of them.
 pub const TOLD: u64 = 10;
 
 // A text under way. Its line and the lump that was read last are lent arrays beside it.
-#[derive(Drop)]
+#[derive(Clone, Copy)]
 pub struct Lines {
     // lines ended so far, and the bytes of the one under way, as far as they are counted
     pub line: u64,
@@ -33,7 +34,7 @@ pub struct Lines {
 }
 
 // The text, and its next good line; where there are no more, no line.
-#[derive(Drop)]
+#[derive(Clone, Copy)]
 pub struct Taken {
     pub lines: Lines,
     pub parsed: Parsed,
@@ -65,8 +66,8 @@ impl Lines {
 }
 
 // From its start once more; says so where a file cannot be.
-pub fn rewind(fd: i32, path: &[u8]) -> bool {
-    if libc::lseek(fd, 0, libc::SEEK_SET) < 0 {
+pub fn rewind(source: &Source, path: &[u8]) -> bool {
+    if !source.rewind() {
         output::tell(path, 0x16, 0);
         return false;
     }
@@ -75,7 +76,7 @@ pub fn rewind(fd: i32, path: &[u8]) -> bool {
 
 // By file, line and column.
 fn tell_line(path: &[u8], line: u64, column: usize, wrong: u8, found: [u8; 8]) {
-    report::print_name(STDERR_FILENO, path);
+    report::print_name(STDERR, path);
     sentences::bad_line(wrong, line, column as u64, found)
         .put(b'\n')
         .complain();
@@ -154,15 +155,23 @@ fn scan(path: &[u8], line: &mut [u8; 1000], lump: &[u8; 65536], lines: Lines) ->
 }
 
 // One read.
-fn refill(fd: i32, path: &[u8], line: &[u8; 1000], lump: &mut [u8; 65536], lines: Lines) -> Lines {
-    let got = libc::read(fd, lump);
+fn refill(
+    source: &Source,
+    path: &[u8],
+    line: &[u8; 1000],
+    lump: &mut [u8; 65536],
+    lines: Lines,
+) -> Lines {
     let mut next = lines;
-    if got < 0 {
-        report::fail(path);
-        next.more = false;
-        next.failed = true;
-        return next;
-    }
+    let got = match source.read(lump) {
+        Ok(n) => n,
+        Err(e) => {
+            report::fail_of(path, &e);
+            next.more = false;
+            next.failed = true;
+            return next;
+        }
+    };
     if got == 0 {
         next = end_last_line(path, line, lines);
         next.more = false;
@@ -170,7 +179,7 @@ fn refill(fd: i32, path: &[u8], line: &[u8; 1000], lump: &mut [u8; 65536], lines
         return next;
     }
     next.from = 0;
-    next.to = io::count(got, lump);
+    next.to = got;
     next
 }
 
@@ -195,7 +204,7 @@ fn end_last_line(path: &[u8], line: &[u8; 1000], lines: Lines) -> Lines {
 
 // Reads until a line is whole, or there are no more.
 fn read_line(
-    fd: i32,
+    source: &Source,
     path: &[u8],
     line: &mut [u8; 1000],
     lump: &mut [u8; 65536],
@@ -213,7 +222,7 @@ fn read_line(
         if !next.more {
             return next;
         }
-        next = refill(fd, path, line, lump, next);
+        next = refill(source, path, line, lump, next);
         if !next.more {
             return next;
         }
@@ -232,13 +241,13 @@ fn judge(line: &[u8; 1000], lines: Lines) -> Parsed {
 
 // The next line; a bad one is told.
 fn take_any(
-    fd: i32,
+    source: &Source,
     path: &[u8],
     line: &mut [u8; 1000],
     lump: &mut [u8; 65536],
     lines: Lines,
 ) -> Taken {
-    let mut next = read_line(fd, path, line, lump, lines);
+    let mut next = read_line(source, path, line, lump, lines);
     if !next.more {
         return nothing(next);
     }
@@ -264,7 +273,7 @@ fn take_any(
 
 // The next good line, which may be empty.
 pub fn take(
-    fd: i32,
+    source: &Source,
     path: &[u8],
     line: &mut [u8; 1000],
     lump: &mut [u8; 65536],
@@ -273,7 +282,7 @@ pub fn take(
     let mut next = lines;
     let mut turns = u64::MAX;
     while turns > 0 {
-        let t = take_any(fd, path, line, lump, next);
+        let t = take_any(source, path, line, lump, next);
         if t.parsed.kind != Parsed::BAD {
             return t;
         }

@@ -1,9 +1,9 @@
 // What is said beside the output, and how the program ends where its output fails.
-use libc::{STDERR_FILENO, STDOUT_FILENO};
+use report::{STDERR, STDOUT};
 
 // Says something of a file, or of an argument.
 pub fn tell(name: &[u8], sentence: u8, number: u64) {
-    report::print_name(STDERR_FILENO, name);
+    report::print_name(STDERR, name);
     sentences::message(sentence, number, 0)
         .put(b'\n')
         .complain();
@@ -11,9 +11,7 @@ pub fn tell(name: &[u8], sentence: u8, number: u64) {
 
 // What stands above the rows of a lesson.
 pub fn print_title(path: &[u8]) -> bool {
-    report::print_name(STDOUT_FILENO, path)
-        && io::write_all(STDOUT_FILENO, b"\n")
-        && sentences::print_heads()
+    report::print_name(STDOUT, path) && io::write_all(STDOUT, b"\n") && sentences::print_heads()
 }
 
 // Standard output takes no more: the program ends at once. It is told as a failure.

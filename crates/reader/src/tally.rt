@@ -2,7 +2,7 @@
 use notation::line::Parsed;
 use sentences::{text, which};
 
-#[derive(Drop)]
+#[derive(Clone, Copy)]
 pub struct Tally {
     records: u64,
     refused: u64,

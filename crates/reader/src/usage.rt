@@ -1,6 +1,7 @@
 // What the arguments of `lesson` may be.
 use crate::output;
 use notation::word;
+use std::fs;
 
 // What is done with a command's files.
 pub const RUN: u8 = 0;
@@ -54,7 +55,7 @@ pub fn check_no_file(mode: u8) -> u8 {
 }
 
 // Whether an argument can be a file of the command under way.
-pub fn check_file(mode: u8, had_file: bool, name: &[u8]) -> u8 {
+pub fn check_file(rt: &HostRuntime, mode: u8, had_file: bool, name: &[u8]) -> u8 {
     if name.len() == 0 {
         return tell_wrong(b"lesson", 0x1c);
     }
@@ -62,7 +63,7 @@ pub fn check_file(mode: u8, had_file: bool, name: &[u8]) -> u8 {
         return check_option(name);
     }
     if mode != CARD {
-        if is_mistyped(name) {
+        if is_mistyped(rt, name) {
             return tell_wrong(name, 0x19);
         }
     }
@@ -84,8 +85,7 @@ fn check_option(name: &[u8]) -> u8 {
 }
 
 // Letters alone, and no file that is there.
-fn is_mistyped(name: &[u8]) -> bool {
-    let mut path = io::buffer();
+fn is_mistyped(rt: &HostRuntime, name: &[u8]) -> bool {
     let mut i = 0;
     while i < name.len() {
         if 4094 < i {
@@ -95,11 +95,18 @@ fn is_mistyped(name: &[u8]) -> bool {
         if !is_letter(x) {
             return false;
         }
-        path[i] = x;
         i += 1;
     }
-    path[4095] = 0;
-    libc::access(&path, libc::F_OK) < 0
+    !is_there(rt, name)
+}
+
+fn is_there(rt: &HostRuntime, name: &[u8]) -> bool {
+    if let Ok(path) = std::str::from_utf8(name) {
+        if let Ok(found) = fs::exists(rt, path) {
+            return found;
+        }
+    }
+    false
 }
 
 // ASCII has its letters in the rows of 32 from 40 and from 60 on, in the places 1 to 26.

@@ -7,7 +7,7 @@ use sentences::text::Text;
 use sentences::{listing, which};
 use timer::{Counter, Timer};
 
-#[derive(Drop)]
+#[derive(Clone, Copy)]
 pub struct Chips {
     // the master, and its eight lines
     pub icu: Icu,
@@ -21,7 +21,7 @@ pub struct Chips {
 }
 
 // A bit for each channel: those that are masked, and those whose mode is of words.
-#[derive(Drop)]
+#[derive(Clone, Copy)]
 pub struct Marked {
     pub masked: u8,
     pub wide: u8,
@@ -99,7 +99,7 @@ pub fn is_slave(port: u8) -> bool {
 }
 
 // How much a row says: all, or no more than the answer has, while a guess is still asked for.
-#[derive(Drop)]
+#[derive(Clone, Copy)]
 pub struct Manner {
     pub plain: bool,
     // another answer was expected
@@ -383,7 +383,7 @@ fn lost(at: u32, way: u8, lent: u32) -> u8 {
 
 // A unit that an answer tells of: its address, the way that it went, how many bytes of it went to memory, and how many, whichever way, are past the end of it; 0 where there is
 // none.
-#[derive(Drop)]
+#[derive(Clone, Copy)]
 pub struct Unit {
     pub address: u32,
     pub way: u8,

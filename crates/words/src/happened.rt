@@ -350,7 +350,7 @@ fn three(a: bool, b: bool, c: bool) -> u8 {
 }
 
 // A bit for each counter: its GATE, whether the next pulse loads it, and whether a low GATE keeps it from counting: once it has a count, in any mode but 1 and 5.
-#[derive(Drop)]
+#[derive(Clone, Copy)]
 struct Gates {
     high: u8,
     loads: u8,
@@ -524,7 +524,7 @@ fn pulse_of_rise(c: Counter, pulses: u32, rises: u32) -> u32 {
 }
 
 // An interrupt chip seen from outside: the levels that ask, and INT.
-#[derive(Drop)]
+#[derive(Clone, Copy)]
 struct Seen {
     irr: u8,
     int: bool,
