@@ -13,7 +13,7 @@ use rival::stretch::{Answers, Memory, Tape};
 use rival::{counts, stretch, tapes};
 
 // Where a run stands: the board, the draw, how many records have answers, and the counts.
-#[derive(Drop)]
+#[derive(Clone, Copy)]
 pub struct Run {
     pub board: Board,
     pub seed: u32,
@@ -32,7 +32,7 @@ pub fn from_reset(seed: u32, tally: Tally) -> Run {
 }
 
 // The parts of a call: of the tape `at` to `end`, of the memory its first `length` bytes, of the answers `from` to `to`.
-#[derive(Drop)]
+#[derive(Clone, Copy)]
 struct Lump {
     at: usize,
     end: usize,

@@ -1,5 +1,7 @@
 // duel CHARTS..: holds the board of this repository, the first, and an independent second one against the charts of the files that it is given, and
 // against each other on long tapes.
+#![tactic(auto)]
+
 mod first;
 mod rounds;
 mod run;
@@ -13,7 +15,7 @@ const ROUNDS: u32 = 120;
 
 fn tell_usage() -> u8 {
     io::write_all(
-        libc::STDERR_FILENO,
+        report::STDERR,
         b"usage: duel CHARTS..    runs files of charts on both boards, and then the duel: ./run duel charts/*.chart\n",
     );
     report::USAGE
@@ -27,17 +29,19 @@ fn is_wrong(word: &[u8]) -> bool {
     word[0] == b'-'
 }
 
-fn is_wrong_at(i: usize) -> bool {
+fn is_wrong_at(rt: &HostRuntime, i: usize) -> bool {
     let mut word = io::buffer();
-    let n = os::arg(i, &mut word);
-    is_wrong(&word[..n])
+    match report::arg(rt, i, &mut word) {
+        Ok(n) => is_wrong(&word[..n]),
+        Err(_) => true,
+    }
 }
 
 // Wrong usage is found before anything is run.
-fn are_wrong(words: usize) -> bool {
+fn are_wrong(rt: &HostRuntime, words: usize) -> bool {
     let mut i: usize = 1;
     while i < words {
-        if is_wrong_at(i) {
+        if is_wrong_at(rt, i) {
             return true;
         }
         i += 1;
@@ -45,8 +49,8 @@ fn are_wrong(words: usize) -> bool {
     words < 2
 }
 
-fn run_all(words: usize) -> u8 {
-    let totals = run::take_arguments(words);
+fn run_all(rt: &HostRuntime, words: usize) -> u8 {
+    let totals = run::take_arguments(rt, words);
     let totalled = run::print_totals(totals);
     let searched = search::compare();
     let told = search::print_all(searched);
@@ -64,11 +68,11 @@ fn run_all(words: usize) -> u8 {
     )
 }
 
-fn main() {
-    let words = os::arg_count();
-    if are_wrong(words) {
+fn main(rt: HostRuntime) {
+    let words = report::arg_count(&rt);
+    if are_wrong(&rt, words) {
         report::end(tell_usage());
         return;
     }
-    report::end(run_all(words));
+    report::end(run_all(&rt, words));
 }

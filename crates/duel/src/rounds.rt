@@ -17,7 +17,7 @@ const LENGTHS: [u32; 16] = [
 ];
 
 // A round under way.
-#[derive(Drop)]
+#[derive(Clone, Copy)]
 struct Round {
     maker: Maker,
     run: Run,
@@ -25,7 +25,7 @@ struct Round {
 }
 
 // The counts of the duel.
-#[derive(Drop)]
+#[derive(Clone, Copy)]
 pub struct Counted {
     pub tally: Tally,
     modes: Modes,

@@ -1,18 +1,19 @@
 // Runs the charts of files: tapes with their answers, in the notation of lessons. Each chart runs on both boards, from reset, over zero bytes of memory: on
 // the second record by record, on the first in lumps. Files are read line by line, so they may have any length.
 use super::first;
-use libc::{STDERR_FILENO, STDOUT_FILENO};
 use notation::line::Parsed;
 use notation::{check, word};
 use reader::lines;
 use reader::lines::Lines;
+use reader::source::Source;
+use report::{STDERR, STDOUT};
 use rival::counts::Tally;
 use rival::stretch::{Answers, Memory, Tape};
 use rival::{counts, modes, places, requests, show, slave, stretch};
 use sentences::text;
 
 // Of all files: charts, those that agreed in every record, their records, bad lines, and files that could not be read or have no chart.
-#[derive(Drop)]
+#[derive(Clone, Copy)]
 pub struct Totals {
     pub charts: u64,
     pub agreed: u64,
@@ -24,7 +25,7 @@ pub struct Totals {
 }
 
 // A chart under way: its name, the length of its memory, its records with the answers typed in, and whether no line of it is bad so far.
-#[derive(Drop)]
+#[derive(Clone, Copy)]
 struct Chart {
     open: bool,
     well: bool,
@@ -37,7 +38,7 @@ struct Chart {
 }
 
 // A file under way. Its bad lines are counted in `lines`, those too that are good in a lesson and bad here.
-#[derive(Drop)]
+#[derive(Clone, Copy)]
 struct Reader {
     totals: Totals,
     chart: Chart,
@@ -77,7 +78,7 @@ fn start(totals: Totals) -> Reader {
 }
 
 fn say(words: &[u8]) {
-    io::write_all(STDERR_FILENO, words);
+    io::write_all(STDERR, words);
 }
 
 // What a chart cannot have here, though a lesson can: the rows of `complain`.
@@ -104,10 +105,10 @@ const GUESSED: u32 = 9;
 // The whole line is meant: column 1.
 fn complain(path: &[u8], line: u64, fault: u32) {
     report::say_of(path, b":");
-    io::print_decimal(STDERR_FILENO, line);
+    io::print_decimal(STDERR, line);
     say(b":1: ");
     show::write_row(
-        STDERR_FILENO,
+        STDERR,
         b"
 a record or 'lend' before the first chart; a line 'chart NAME' opens one
 in the duel a chart has at most 64 records
@@ -198,13 +199,13 @@ fn print_head(number: u64, name: &[u8; 64], length: usize) -> bool {
 
 fn print_name(name: &[u8], length: usize) -> bool {
     if length <= name.len() {
-        return report::print_name(STDOUT_FILENO, &name[..length]);
+        return report::print_name(STDOUT, &name[..length]);
     }
     false
 }
 
 // A chart that was run, or not: whether it agreed, and whether that was written. Where it did not agree, the program fails anyway.
-#[derive(Drop)]
+#[derive(Clone, Copy)]
 struct Outcome {
     agreed: bool,
     written: bool,
@@ -436,7 +437,7 @@ fn cut_off(reader: Reader) -> Reader {
 }
 
 fn take_lines(
-    fd: i32,
+    source: &Source,
     path: &[u8],
     line: &mut [u8; 1000],
     lump: &mut [u8; 65536],
@@ -445,7 +446,7 @@ fn take_lines(
     let mut reader = start(totals);
     let mut turns = u64::MAX;
     while turns > 0 {
-        let taken = lines::take(fd, path, line, lump, reader.lines);
+        let taken = lines::take(source, path, line, lump, reader.lines);
         reader = take_line(path, after(reader, taken.lines), line, taken.parsed);
         if !reader.lines.more {
             return end_file(path, reader);
@@ -455,10 +456,10 @@ fn take_lines(
     end_file(path, cut_off(reader))
 }
 
-fn take_file(fd: i32, path: &[u8], totals: Totals) -> Totals {
+fn take_file(source: &Source, path: &[u8], totals: Totals) -> Totals {
     let mut line = [0u8; 1000];
     let mut lump = [0u8; 65536];
-    take_lines(fd, path, &mut line, &mut lump, totals)
+    take_lines(source, path, &mut line, &mut lump, totals)
 }
 
 // A file with no chart, and nothing wrong, is told and counted.
@@ -473,33 +474,33 @@ fn seen(path: &[u8], before: Totals, after: Totals) -> Totals {
     after
 }
 
-fn open_file(path: &[u8], totals: Totals) -> Totals {
-    let fd = os::open_read(path);
-    if fd < 0 {
-        report::fail(path);
-        return with_unread(totals);
+fn open_file(rt: &HostRuntime, path: &[u8], totals: Totals) -> Totals {
+    match Source::open(rt, path) {
+        Ok(source) => seen(path, totals, take_file(&source, path, totals)),
+        Err(e) => {
+            report::fail_of(path, &e);
+            with_unread(totals)
+        }
     }
-    let next = take_file(fd, path, totals);
-    libc::close(fd);
-    seen(path, totals, next)
 }
 
-fn take_argument(i: usize, totals: Totals) -> Totals {
+fn take_argument(rt: &HostRuntime, i: usize, totals: Totals) -> Totals {
     let mut word = io::buffer();
-    let n = os::arg(i, &mut word);
-    if os::errno() != 0 {
-        os::fail(b"duel: an argument");
-        return with_unread(totals);
+    match report::arg(rt, i, &mut word) {
+        Ok(n) => open_file(rt, &word[..n], totals),
+        Err(e) => {
+            report::fail_with(b"duel: an argument", &e);
+            with_unread(totals)
+        }
     }
-    open_file(&word[..n], totals)
 }
 
 // The files that the arguments name.
-pub fn take_arguments(words: usize) -> Totals {
+pub fn take_arguments(rt: &HostRuntime, words: usize) -> Totals {
     let mut totals = no_totals();
     let mut i: usize = 1;
     while i < words {
-        totals = take_argument(i, totals);
+        totals = take_argument(rt, i, totals);
         i += 1;
     }
     totals

@@ -5,7 +5,7 @@ use rival::show;
 
 const PAIRS: u16 = 2048;
 
-#[derive(Drop)]
+#[derive(Clone, Copy)]
 pub struct Searched {
     // pairs of a byte and a lowest level, those of them in which no level is found, and those in which the searches differ
     pairs: u64,
