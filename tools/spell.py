@@ -4,10 +4,10 @@
 usage: python3 tools/spell.py [FOLDER]
 
 FOLDER is the top of the repository, this folder's parent if it is left out. What is renamed: each name that a file of specs/ or proofs/
-declares and that begins with a small letter, in those files, in the clauses and `ghost use` items of src/, in the pages' code spans.
+declares and that begins with a small letter, in those files and in the clauses and `ghost use` items of src/. Pages are left.
 A function's own Proof.antt is read for what it cites, and what it declares by itself is left, since those are names of goals.
 Names that a library has stay. Where a definition and a law about it would get one name, the law's ends in `_law` (LAWS).
-A second run writes nothing.
+It is run once, right after the kit's port.py. Where a proof is in answers already, whose names are the check's, it writes nothing.
 """
 
 import collections
@@ -87,15 +87,8 @@ def table(crates):
 
 
 def turn_antt(text, turned, fields, is_proof):
-    def word(m):
-        name = m[0]
-        behind = text[m.start() - 1 : m.start()] == "."
-        if behind and is_proof and name not in fields:
-            return name
-        return turned.get(name, name)
-
     if not is_proof:
-        return re.sub(WORD, word, text)
+        return re.sub(WORD, lambda m: turned.get(m[0], m[0]), text)
     # what the file declares by itself is the name of a goal, and stays
     own = set(DECLARED.findall(COMMENT.sub("", text)))
     kept = {old: new for old, new in turned.items() if old not in own}
@@ -126,16 +119,12 @@ def turn_rt(text, turned):
     )
 
 
-def turn_page(text, turned):
-    def span(m):
-        return re.sub(WORD, lambda w: turned.get(w[0], w[0]), m[0])
-
-    return re.sub(r"`[^`\n]+`", span, text)
-
-
 def main(argv):
     top = argv[0] if argv else os.path.dirname(os.path.dirname(os.path.realpath(__file__)))
     crates = os.path.join(top, "crates")
+    if any("/proofs/" in path and path.endswith(("/Answers.antt", "/Invariants.antt")) for path, _ in texts(crates, ".antt")):
+        print("spell: proofs are in answers already: nothing is renamed", file=sys.stderr)
+        return 1
     turned, fields = table(crates)
     meets = collections.defaultdict(set)
     for old, new in turned.items():
@@ -149,7 +138,6 @@ def main(argv):
                 return 1
     changed = 0
     work = [(path, text, ".antt" if path.endswith(".antt") else ".rt") for path, text in texts(crates, ".antt", ".rt")]
-    work += [(path, text, ".md") for path, text in texts(top, ".md")]
     for path, text, kind in work:
         crate = os.path.relpath(path, crates).split(os.sep)[0]
         here = dict(turned)
@@ -158,10 +146,8 @@ def main(argv):
                 here[old] = new
         if kind == ".antt":
             new = turn_antt(text, here, fields, path.endswith("/Proof.antt"))
-        elif kind == ".rt":
-            new = turn_rt(text, turned)
         else:
-            new = turn_page(text, turned)
+            new = turn_rt(text, turned)
         if new != text:
             changed += 1
             with open(path, "w", encoding="utf-8") as f:
