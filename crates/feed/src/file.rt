@@ -71,11 +71,15 @@ fn is_regular(path: &[u8], known: Known) -> bool {
     if known.regular {
         return true;
     }
+    tell_irregular(path);
+    false
+}
+
+fn tell_irregular(path: &[u8]) {
     report::say_of(
         path,
         b": not a regular file, and MEMORY has to be one; nothing was run\n",
     );
-    false
 }
 
 // The path with its last part's links followed, of which the system takes forty; answers its length, or 0 where that does not end or is too long.
@@ -287,8 +291,8 @@ fn hold(rt: &HostRuntime, path: &[u8], new: &[u8], file: &File) -> Ended {
     };
     let known = match look::look(&old) {
         Ok(known) => known,
-        Err(error) => {
-            report::fail_of(path, &error);
+        Err(_) => {
+            tell_irregular(path);
             return refuse();
         }
     };
@@ -311,32 +315,14 @@ fn make_alike(rt: &HostRuntime, path: &[u8], new: &[u8], file: &File, known: Kno
     if !is_regular(path, known) {
         return false;
     }
-    let output = match look::look_at(rt, OUTPUT) {
-        Ok(output) => output,
-        Err(error) => {
-            report::print_name(report::STDERR, path);
-            report::fail_with(
-                b": nothing was run, it is not known whether the answers would go into this file: /proc/self/fd/1",
-                &error,
-            );
-            return false;
-        }
-    };
-    if look::is_same(known, output) {
+    if is_output(rt, known) {
         report::say_of(
             path,
             b": nothing was run, the answers would go into the memory's own file\n",
         );
         return false;
     }
-    let made = match look::look(file) {
-        Ok(made) => made,
-        Err(error) => {
-            report::fail_of(new, &error);
-            return false;
-        }
-    };
-    if !is_owned_alike(made, known) {
+    if !is_made_alike(file, known) {
         if let Err(error) = fchown(file.as_fd(), Some(known.owner), Some(known.group)) {
             report::print_name(report::STDERR, path);
             report::fail_with(b": nothing was run, its owner could not be kept", &error);
@@ -348,6 +334,22 @@ fn make_alike(rt: &HostRuntime, path: &[u8], new: &[u8], file: &File, known: Kno
 
 // What standard output is, as a name of the system's own: std looks at no descriptor that it did not open.
 const OUTPUT: &[u8] = b"/proc/self/fd/1";
+
+// Whether standard output is the file. Where the system does not tell, it counts as another one.
+fn is_output(rt: &HostRuntime, known: Known) -> bool {
+    match look::look_at(rt, OUTPUT) {
+        Ok(output) => look::is_same(known, output),
+        Err(_) => false,
+    }
+}
+
+// Whether the new file has the old one's owner already.
+fn is_made_alike(file: &File, known: Known) -> bool {
+    match look::look(file) {
+        Ok(made) => is_owned_alike(made, known),
+        Err(_) => false,
+    }
+}
 
 fn give_mode(new: &[u8], file: &File, mode: u32) -> bool {
     if let Err(error) = file.set_permissions(Permissions::from_mode(mode & 0o7777)) {
