@@ -1,6 +1,6 @@
 /* limbusagin.h: the board for programs in C.
  *
- * Link with libhost.a, which `rt staticlib host` writes to target/staticlib/. The archive is for x86-64 Linux.
+ * Link with libhost.a, which `rt lib` in crates/host writes to crates/host/out/. The archive is for x86-64 Linux.
  * The header includes no other, so that it also serves a compiler that comes without C's own headers.
  *
  * A board is a value. A call takes one and gives back the next; nothing is kept in the library, so any number of boards may be

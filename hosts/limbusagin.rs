@@ -1,5 +1,5 @@
-//! The board for programs in Rust. Take this file in as a module (`mod limbusagin;`) and link `libhost.a`, which `rt staticlib host` writes to
-//! `target/staticlib/`. The archive is for x86-64 Linux.
+//! The board for programs in Rust. Take this file in as a module (`mod limbusagin;`) and link `libhost.a`, which `rt lib` in crates/host writes to
+//! `crates/host/out/`. The archive is for x86-64 Linux.
 //!
 //! ```ignore
 //! let mut board = limbusagin::Board::fresh();

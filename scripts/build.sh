@@ -1,32 +1,33 @@
 # build.sh: what ./run, hosts/run, bench/bench and package/make share: whether something is proved as its source stands now, and if not, its
 # building. It is taken in after start.sh, with `root` set to the checkout's folder.
-# shellcheck shell=sh disable=SC2015,SC2154,SC3045
+# shellcheck shell=sh disable=SC2015,SC2154
 
 . "$root/scripts/scratch.sh"
 
-# Finds the toolchain: `tools` is its folder for this machine, `lib` has its C library, `emulator` is empty where programs run without one.
+# Finds the toolchain: `tools` is its folder, `lib` has its C library, and `kit`, where both stand, the line that names it.
 find_tools() {
     command -v rt >/dev/null || fail "rt, the Rattle toolchain, is not found by PATH, which is $PATH"
-    guide=$(rt doc) || fail "rt doc does not say where the toolchain is"
     machine=$(uname -m)
-    tools=$(dirname "$(dirname "$guide")")/on/$machine/toolchain
+    [ "$machine" = x86_64 ] || fail "programs are for x86-64, and this machine is $machine"
+    # (rt doc says where it is, too, and takes longer than all the rest here)
+    kit=$(dirname "$(dirname "$(readlink -f -- "$(command -v rt)")")")
+    [ -f "$kit/KIT-ID" ] || kit=$(dirname "$(rt doc)")
+    [ -f "$kit/KIT-ID" ] || fail "rt doc does not say where the toolchain is"
+    tools=$kit/toolchain
     # shellcheck disable=SC2034
     lib=$tools/lib
-    emulator=$tools/bin/qemu-x86_64
-    [ -x "$emulator" ] || emulator=
-    [ -n "$emulator" ] || [ "$machine" = x86_64 ] || fail "programs are for x86-64, and the toolchain has no emulator here"
 }
 
-# Leaves nothing behind at the end, also when a signal comes: no temporary folder (`room`, and `scratch` in memory; a script may have one of
-# its own, `stage`, and a file, `unfinished`), nobody who waits for the lock, and no build going on. (rt is the head of a session of its own,
-# and all that it started is ended with it; a moment after its start it is not yet.)
-room='' scratch='' stage='' unfinished='' waiter='' builder=''
+# Leaves nothing behind at the end, also when a signal comes: no temporary folder (`scratch` in memory; a script may have one of
+# its own, `stage`, and a file, `unfinished`), nobody who waits for the lock, and no build going on. (What builds is the head of a session of its
+# own, and all that it started is ended with it; a moment after its start it is not yet.)
+scratch='' stage='' unfinished='' waiter='' builder=''
 clean() {
     [ -z "$waiter" ] || kill -s TERM "$waiter" 2>/dev/null
     [ -z "$builder" ] || kill -s TERM -- "-$builder" 2>/dev/null || kill -s TERM "$builder" 2>/dev/null
-    [ -z "$room$scratch$stage$unfinished" ] ||
-        rm -rf ${room:+"$room"} ${scratch:+"$scratch"} ${stage:+"$stage"} ${unfinished:+"$unfinished"}
-    room='' scratch='' stage='' unfinished='' waiter='' builder=''
+    [ -z "$scratch$stage$unfinished" ] ||
+        rm -rf ${scratch:+"$scratch"} ${stage:+"$stage"} ${unfinished:+"$unfinished"}
+    scratch='' stage='' unfinished='' waiter='' builder=''
 }
 stop() { # SIGNAL
     clean
@@ -39,34 +40,34 @@ for signal in HUP INT QUIT TERM; do
     trap "stop $signal" "$signal"
 done
 
-# Asks rt whether a crate, and all that it uses, is proved as it stands now. rt tells by its stamps, and would prove what is not. So it is
-# asked in a temporary folder, over a copy of the stamps: it writes nothing into target/, needs no lock, and cannot get far, for lack of
-# libraries, of memory (a prover ends at once in 400 MB) and of processor time (two seconds for each of its processes; the asking itself takes some
-# hundredths). It is current if rt is content and made nothing. Sets `stamp`, the crate's stamp, and `old`, the crates that are still to be proved.
-is_current() { # CRATE
-    room=$(mktemp -d) || fail "no temporary folder can be made"
-    mkdir "$room/target" "$room/target/stamp" "$room/left" && ln -s "$root/crates" "$root/crates.txt" "$room" ||
-        fail "the temporary folder cannot be used"
-    # (a stamp that cannot be read, or goes or comes meanwhile, since rt is at work, is one that is not there)
-    trouble=$(LC_ALL=C cp "$root"/target/stamp/* "$room/target/stamp/" 2>&1 | grep -v -e 'cannot stat' -e 'for reading' -e 'was replaced while')
-    # (what a prover leaves that is stopped goes away with the folder)
-    said=$(cd "$room" && { ulimit -v 400000 || :; ulimit -t 2 || :; } 2>/dev/null && TMPDIR="$PWD/left" rt check "$1" 2>&1 </dev/null)
-    content=$?
-    if [ "$content" -ne 0 ]; then
-        # rt takes a full disk for a failed proof
-        trouble=${trouble:-$(head -c 65536 /dev/zero 2>&1 >"$room/left/trial")}
-        [ -z "$trouble" ] || fail "the temporary folder cannot be used: $(printf '%s\n' "$trouble" | sed 1q)"
-    fi
-    made=$(find "$room/target/rlib" "$room/target/bin" 2>/dev/null | sed 1d)
-    stamp=$(cat "$room/target/stamp/$1" 2>/dev/null)
-    rm -rf "$room"
-    room=
-    old=$(printf '%s\n' "$said" | sed -n -e '/(unchanged/d' -e 's/ NOT PROVED.*/ proved/' -e 's/^rt: \([a-z0-9_]*\) proved.*/\1/p')
-    [ "$content" -eq 0 ] && [ -z "$made" ] && [ -n "$stamp" ]
+# Reads what a crate is now. Sets `parts`, the crates that it stands on, lowest first, and itself, and `stamp`, a sum of all that is proved and
+# built of them: their sources, definitions and proofs, their lines of crates.txt, and the line that names the toolchain.
+read_stamp() { # CRATE
+    lines=$(CRATE=$1 awk '
+        { sub(/#.*/, "") }
+        split($0, side, ":") == 2 { split(side[1], head, " "); line[head[1]] = $0; used[head[1]] = side[2] }
+        function visit(crate, n, i, names) {
+            if (seen[crate]++ || !(crate in line)) return
+            n = split(used[crate], names, " ")
+            for (i = 1; i <= n; i++) visit(names[i])
+            print line[crate]
+        }
+        END { visit(ENVIRON["CRATE"]) }' "$root/crates.txt")
+    parts=$(printf '%s\n' "$lines" | sed -e 's/:.*//' -e 's/ *staticlib.*//' | tr '\n' ' ')
+    stamp=$(
+        cd "$root/crates" && {
+            cat "$kit/KIT-ID"
+            printf '%s\n' "$lines"
+            for part in $parts; do
+                find "$part/src" "$part/specs" "$part/proofs" -type f -print0 2>/dev/null
+            done | LC_ALL=C sort -z | xargs -0 sha256sum 2>&1
+        } | sha256sum | cut -d ' ' -f 1
+    )
+    [ -n "$stamp" ] || fail "what $1 is made of cannot be read"
 }
 
 # Takes the lock of building, by descriptor 7, and says so if it has to wait. The lock is on the checkout's folder, since target/ may be
-# removed by rt. rt has it too: a build that outlives its script keeps others waiting.
+# removed. What builds has it too: a build that outlives its script keeps others waiting.
 take_lock() {
     command -v flock >/dev/null || fail "flock, by which builds wait for each other, is not on this machine"
     exec 7<"$root"
@@ -85,42 +86,36 @@ need_target() { # WHAT
     [ -z "$trouble" ] || fail "$1 has to be built, since $why, and the checkout cannot be written: $trouble"
 }
 
-# Says what has come since it last looked: crates that are proved, and which are being proved now; that again after half a minute.
+# Says what has come since it last looked: crates that are proved, and which is being proved now; that again after half a minute.
 tell_progress() {
     now=$(($(date +%s) - began))
     clock=$((now / 60)):$(printf %02d $((now % 60)))
-    at_work='' still=''
-    for crate in $left; do
-        part=$root/target/log/$crate.out
-        ended=$(sed -n "s/^rt: $crate //p" "$part" 2>/dev/null | tail -n 1)
-        if [ -z "$ended" ]; then
-            still="$still $crate"
-            [ ! -f "$part" ] || at_work="$at_work $crate"
-        else
-            count=$((count + 1))
-            say "$clock $crate is $ended, $count of $total"
-        fi
+    for crate in $(sed -n 's/^== proved //p' "$log" | tail -n +$((count + 1))); do
+        count=$((count + 1))
+        say "$clock $crate is proved, $count of $total"
     done
-    left=$still
-    if [ -n "$at_work" ] && { [ "$at_work" != "$shown" ] || [ "$now" -ge "$again" ]; }; then
-        say "$clock proving$at_work"
+    at_work=$(sed -n 's/^== prov/prov/p' "$log" | tail -n 1)
+    case $at_work in
+    'proving '*) ;;
+    *) return ;;
+    esac
+    if [ "$at_work" != "$shown" ] || [ "$now" -ge "$again" ]; then
+        say "$clock $at_work"
         again=$((now + 30))
     fi
     shown=$at_work
 }
 
-# Runs rt, or prove.sh, which starts it, and says meanwhile how far it is with the crates of `old`, as target/log/ has it.
-run_rt() { # LOG COMMAND..
-    log=$1
-    shift
-    left=$old shown='' again=0 count=0 total=0
-    for crate in $old; do
-        total=$((total + 1))
-        rm -f "$root/target/log/$crate.out"
-    done
+# Proves the crates of `parts` and builds the last, and says meanwhile how far it is, as the log has it.
+build_last() { # NAME
+    log=$root/target/run/$1.log
+    shown='' again=0 count=0 total=0
+    for crate in $parts; do total=$((total + 1)); done
     began=$(date +%s)
     make_scratch
-    (cd "$root" && { [ -z "$scratch" ] || { TMPDIR=$scratch && export TMPDIR; }; } && exec setsid "$@") </dev/null >"$log" 2>&1 &
+    : >"$log"
+    # shellcheck disable=SC2086
+    ({ [ -z "$scratch" ] || { TMPDIR=$scratch && export TMPDIR; }; } && exec setsid sh "$root/scripts/prove.sh" "$root" $parts) </dev/null >"$log" 2>&1 &
     builder=$!
     while kill -s 0 "$builder" 2>/dev/null; do
         sleep 1
@@ -133,62 +128,49 @@ run_rt() { # LOG COMMAND..
     scratch=
     tell_progress
     [ "$ended_with" -eq 0 ] || {
-        sed '/(unchanged since/d' "$log" | tail -n 20 >&2
+        tail -n 20 "$log" >&2
         fail "building failed; all that rt said is in $log"
     }
 }
 
-# Proves the crates of `old`.
-prove_old() { # NAME
-    # shellcheck disable=SC2086
-    run_rt "$root/target/run/$1.log" sh "$root/scripts/prove.sh" "$root" $old
+# Takes what was built, crates/CRATE/out/FILE, to its place, if the crate is still what was built. rt may write the file anew at any time: of a
+# program it has the sum, beside it.
+place() { # CRATE FILE PLACE
+    built=$root/crates/$1/out/$2 copy=$root/target/run/new-$2-$$ built_from=$stamp
+    cp "$built" "$copy" 2>/dev/null && sum=$(sha256sum <"$copy" | cut -d ' ' -f 1) || sum=
+    read_stamp "$1"
+    if [ -z "$sum" ] || [ "$stamp" != "$built_from" ] || { [ -f "$built.stamp" ] && ! grep -q "$sum" "$built.stamp"; }; then
+        rm -f "$copy"
+        fail "$1 was changed while it was built: start it again"
+    fi
+    chmod 755 "$copy" && mv -f "$copy" "$3" || fail "$3 cannot be written"
+    rm -f "$root/target/run/new-$2"-*
 }
 
-# Sets `program` to the file to start: a copy of target/bin/NAME under its stamp, since rt may write target/bin anew at any time. rt removes
-# the stamp before it does so: if the stamp is the same after copying, the copy is whole. Older copies go. Where nothing can be written, the
-# program is started as it stands.
-place() { # NAME
+# Builds a program if it is not current, and sets `program` to the file to start: a copy of what rt built, under its stamp. Older copies go.
+need_program() { # NAME
+    read_stamp "$1"
     program=$root/target/run/$1-$stamp
     [ ! -x "$program" ] || return 0
-    built=$root/target/bin/$1 copy=$root/target/run/new-$1-$$
-    [ -x "$built" ] || return 1
-    (mkdir -p "$root/target/run" && cp "$built" "$copy" && chmod 755 "$copy") 2>/dev/null
-    copied=$?
-    if [ "$(cat "$root/target/stamp/$1" 2>/dev/null)" != "$stamp" ]; then
-        rm -f "$copy"
-        return 1
-    fi
-    if [ "$copied" -eq 0 ] && mv -f "$copy" "$program" 2>/dev/null; then
-        for copy in "$root/target/run/$1"-*; do [ "$copy" = "$program" ] || rm -f "$copy"; done
-    else
-        rm -f "$copy" 2>/dev/null
-        program=$built
-    fi
-}
-
-# Builds a program if it is not current, and sets `program` to the file to start.
-need_program() { # NAME
-    is_current "$1" && place "$1" && return
-    why="its source or the toolchain has changed"
-    [ -x "$root/target/bin/$1" ] || why="it was not built here yet"
+    why="it was not built here yet"
+    for copy in "$root/target/run/$1"-*; do [ ! -x "$copy" ] || why="its source or the toolchain has changed"; done
     need_target "$1"
     take_lock
-    if is_current "$1"; then
-        place "$1" && { exec 7<&-; return; }
-        # proved, and the program is gone: rt links it again if it has no stamp
-        rm -f "$root/target/stamp/$1"
-        old=$1
+    read_stamp "$1"
+    program=$root/target/run/$1-$stamp
+    if [ ! -x "$program" ]; then
+        say "building $1, since $why: it is proved first, which can take some minutes"
+        build_last "$1"
+        place "$1" "$1" "$program"
+        for copy in "$root/target/run/$1"-*; do [ "$copy" = "$program" ] || rm -f "$copy"; done
     fi
-    say "building $1, since $why: it is proved first, which can take some minutes"
-    prove_old "$1"
-    is_current "$1" && place "$1" || fail "$1 was changed while it was built: start it again"
-    rm -f "$root/target/run/new-$1"-*
     exec 7<&-
 }
 
-# Whether the static library is current. rt keeps no stamp of an archive: beside it stand the stamp of its crate and the archive's sum.
+# Whether the static library is current: beside it stand the stamp of its crate and the archive's sum.
 library_is_current() {
-    is_current host && [ -f "$archive" ] && [ "$(cat "$archive.stamp" 2>/dev/null)" = "$stamp $(sha256sum <"$archive")" ]
+    read_stamp host
+    [ -f "$archive" ] && [ "$(cat "$archive.stamp" 2>/dev/null)" = "$stamp $(sha256sum <"$archive")" ]
 }
 
 # Builds the static library if it is not current, and sets `archive`.
@@ -201,12 +183,9 @@ need_library() {
     take_lock
     if ! library_is_current; then
         say "building the library, since $why: it is proved first, which can take some minutes"
-        rm -f "$archive.stamp"
-        is_current host || prove_old host
-        is_current host || fail "the library was changed while it was built: start it again"
-        built_from=$stamp
-        run_rt "$root/target/run/libhost.log" rt staticlib host
-        is_current host && [ "$stamp" = "$built_from" ] || fail "the library was changed while it was built: start it again"
+        mkdir -p "$root/target/staticlib" && rm -f "$archive.stamp"
+        build_last host
+        place host libhost.a "$archive"
         echo "$stamp $(sha256sum <"$archive")" >"$archive.stamp"
     fi
     exec 7<&-

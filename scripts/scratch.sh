@@ -1,5 +1,5 @@
-# scratch.sh: a place in memory for what rt writes while it proves, hundreds of megabytes for a crate that it removes again. The gate and build.sh
-# take it in.
+# scratch.sh: a place in memory for what rt writes while it proves, hundreds of megabytes for a crate that it removes again. build.sh takes
+# it in.
 # shellcheck shell=sh disable=SC2015
 
 # Sets `scratch` to a folder in memory, or to nothing: where somebody has set TMPDIR, where memory is short, or where no program can be started in

@@ -1,8 +1,8 @@
 -- Facts about bytes: each over all bytes and levels by one computed test, or past level 7 by arithmetic.
-use Rattle.std.proofs.Common.{◌≡◌, ℕ, zero, suc, ◌+◌, ◌-◌, ◌*◌, ◌/◌, ◌%◌, ◌^◌, ◌<◌, ◌≤◌, Bool, true, false, refl, lt_of_lt_of_le, arith, le-ltb}
+use Rattle.std.proofs.Common.{◌≡◌, ℕ, ◌-◌, ◌*◌, ◌%◌, ◌^◌, ◌<◌, ◌≤◌, false, lt_of_lt_of_le, arith, le-ltb}
 use native.Mathlib.Nat.{div-eq_of_lt, pow-le-pow_right}
 use lib.Bits.{bit_and, bit_or}
-use Rattle.bits.specs.Choice.{if◌then◌else◌, every}
+use Rattle.bits.specs.Choice.{every}
 use Rattle.bits.specs.Bits.{bit_of, with_of, without_of}
 use Rattle.bits.proofs.Every.{agree}
 

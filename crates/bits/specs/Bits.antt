@@ -1,6 +1,5 @@
 -- The bits of a byte, by arithmetic. A byte has bits 0 to 7.
-use Rattle.std.specs.Prelude.{ℕ, ◌+◌, ◌-◌, ◌/◌, ◌%◌, ◌^◌, Bool, ◌==◌, bit_and, nat_lt}
-use Rattle.bits.specs.Choice.{if◌then◌else◌, ◌and◌}
+use Rattle.std.specs.Prelude.{ℕ, ◌+◌, ◌-◌, ◌/◌, ◌%◌, ◌^◌, Bool, ◌==◌, bit_and, nat_lt, if◌then◌else◌}
 
 -- Bit n of x.
 unfoldable pub bit_of : ℕ → ℕ → Bool

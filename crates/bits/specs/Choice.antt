@@ -1,12 +1,6 @@
 -- The words in which the rules of the chips are written.
 use Rattle.std.specs.Prelude.{ℕ, zero, suc, Bool, true, false}
 
--- One of two, by a test.
-infixr 10 if◌then◌else◌
-abbrev pub if◌then◌else◌ : {A : Type 0} → Bool → A → A → A
-if true then a else b = a
-if false then a else b = b
-
 -- Both, and one of the two at least.
 infixr 20 ◌and◌
 abbrev pub ◌and◌ : Bool → Bool → Bool

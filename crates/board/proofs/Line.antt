@@ -7,7 +7,8 @@ use native.Mathlib.Omega.{arith}
 use borrow.Author.Tests.{lt-ltb}
 use lib.Bits.{bit_or}
 use lib.Dec.{ltb, eqb, eqb→eq}
-use Rattle.bits.specs.Choice.{if◌then◌else◌, every}
+use Rattle.bits.specs.Choice.{every}
+use Rattle.std.specs.Prelude.{if◌then◌else◌}
 use Rattle.bits.specs.Bits.{bit_of, with_of, without_of, masked_of}
 use Rattle.bits.proofs.Every.{below, same}
 use Rattle.icu.specs.declared.Icu.{Icu}

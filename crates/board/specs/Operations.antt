@@ -1,6 +1,5 @@
 -- What each operation of a record comes to.
-use Rattle.std.specs.Prelude.{ℕ, ◌+◌, ◌/◌, ◌%◌, Bool, true, false, List, [], ◌∷◌, ◌++◌, eqb}
-use Rattle.bits.specs.Choice.{if◌then◌else◌}
+use Rattle.std.specs.Prelude.{ℕ, ◌/◌, ◌%◌, Bool, List, [], ◌∷◌, ◌++◌, eqb, if◌then◌else◌}
 use Rattle.tape.specs.Answers.{twelve, little_of}
 use Rattle.icu.specs.Words as IcuWords
 use Rattle.icu.specs.Service as IcuService
@@ -8,8 +7,6 @@ use Rattle.icu.specs.Answers as IcuAnswers
 use Rattle.icu.specs.Requests as IcuRequests
 use Rattle.cascade.specs.Cascade.{master_iw3, slave_iw3, answered, passed_on, master_serves, slave_answers}
 use Rattle.timer.specs.Timer as Timers
-use Rattle.timer.specs.declared.Timer.{Timer}
-use Rattle.dma.specs.declared.Dma.{Dma}
 use Rattle.dma.specs.Registers as DmaRegisters
 use Rattle.dma.specs.Cycle as DmaCycle
 use Rattle.dma.specs.Report.{Told}

@@ -1,6 +1,5 @@
 -- The records that a run of bytes makes, one after another.
-use Rattle.std.specs.Prelude.{ℕ, zero, suc, ◌+◌, ◌*◌, ◌/◌, ◌%◌, List, [], ◌∷◌, ◌++◌, ltb, length, get_or}
-use Rattle.bits.specs.Choice.{if◌then◌else◌}
+use Rattle.std.specs.Prelude.{ℕ, zero, suc, ◌+◌, ◌*◌, ◌/◌, ◌%◌, List, [], ◌∷◌, ◌++◌, ltb, length, get_or, if◌then◌else◌}
 use Rattle.board.specs.declared.Board.{Board}
 use Rattle.board.specs.Step.{step_of, step_memory}
 

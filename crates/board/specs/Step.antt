@@ -1,6 +1,6 @@
 -- One record.
-use Rattle.std.specs.Prelude.{ℕ, Bool, List}
-use Rattle.bits.specs.Choice.{if◌then◌else◌, ◌and◌}
+use Rattle.std.specs.Prelude.{ℕ, Bool, List, if◌then◌else◌}
+use Rattle.bits.specs.Choice.{◌and◌}
 use Rattle.tape.specs.declared.Operation.{Operation}
 use Rattle.tape.specs.declared.Operation.TheVariants.{Reset, Write, Read, Intp, Gates, Requests, SlaveIntp, Acknowledge, Advance, Cycle}
 use Rattle.tape.specs.declared.Decoded.{Decoded}

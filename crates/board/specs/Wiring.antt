@@ -1,6 +1,5 @@
 -- The wiring of the board: OUT0 is INTP0, the slave's INT is joined to INTP7, and every change of these lines reaches the interrupt chip, the master.
-use Rattle.std.specs.Prelude.{ℕ, ◌+◌, Bool, [], ◌∷◌}
-use Rattle.bits.specs.Choice.{if◌then◌else◌}
+use Rattle.std.specs.Prelude.{ℕ, ◌+◌, Bool, [], ◌∷◌, if◌then◌else◌}
 use Rattle.bits.specs.Bits.{with_of, without_of}
 use Rattle.icu.specs.declared.Icu.{Icu}
 use Rattle.icu.specs.Words as IcuWords

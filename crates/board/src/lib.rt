@@ -2,8 +2,8 @@
 // What stands over a chip or two by itself is public for the loop (`records`), which owns the chips and has no board in its hands.
 #![tactic(auto)]
 
-ghost use Rattle.std.specs.Prelude.{◌≡◌, Bool, not, ◌++◌, ◌∷◌, [], ltb};
-ghost use Rattle.bits.specs.Choice.{if◌then◌else◌, ◌and◌};
+ghost use Rattle.std.specs.Prelude.{◌≡◌, Bool, not, ◌++◌, ◌∷◌, [], ltb, if◌then◌else◌};
+ghost use Rattle.bits.specs.Choice.{◌and◌};
 ghost use Rattle.icu.specs.declared.Icu.{Icu};
 ghost use Rattle.icu.specs.Words as IcuWords;
 ghost use Rattle.icu.specs.Service as IcuService;

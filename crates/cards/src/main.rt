@@ -31,8 +31,8 @@ What each bit of a port means, a screen for each port or word of the chips. `./r
     report::fail_output(b"cards: standard output")
 }
 
-fn main() {
-    if 1 < os::arg_count() {
+fn main(rt: HostRuntime) {
+    if 1 < report::arg_count(&rt) {
         report::end(tell_usage());
         return;
     }

@@ -1,7 +1,7 @@
 -- Two interrupt chips, the slave's INT on line 7 of the master: how they are wired, which set-ups answer an acknowledge, who gives the bytes, what each chip does, and when line 7
 -- follows. Each chip keeps to the rules of one chip alone (`icu`); `board` puts these together for its records (Operations.antt).
-use Rattle.std.specs.Prelude.{ℕ, Bool, true, false, not, eqb}
-use Rattle.bits.specs.Choice.{if◌then◌else◌, ◌and◌}
+use Rattle.std.specs.Prelude.{ℕ, Bool, true, false, not, eqb, if◌then◌else◌}
+use Rattle.bits.specs.Choice.{◌and◌}
 use Rattle.bits.specs.Bits.{with_of}
 use Rattle.icu.specs.declared.Icu.{Icu}
 use Rattle.icu.specs.Words.{ready, sngl}

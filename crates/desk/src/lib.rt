@@ -4,6 +4,7 @@
 
 use notation::line::Parsed;
 use reader::lines::Lines;
+use reader::source::Source;
 use reader::tally::Tally;
 use reader::{comments, expected, filters, lines, memory, output, pieces, usage};
 use sentences::bytes::{Answer, Record};
@@ -92,7 +93,7 @@ impl Desk {
     pub fn take(
         self,
         chips: Chips,
-        fd: i32,
+        source: &Source,
         path: &[u8],
         line: &mut [u8; 1000],
         lump: &mut [u8; 65536],
@@ -104,7 +105,7 @@ impl Desk {
             next.due = RECORD;
             return next;
         }
-        let t = lines::take(fd, path, line, lump, self.lines);
+        let t = lines::take(source, path, line, lump, self.lines);
         let lines = t.lines;
         let p = t.parsed;
         next.lines = lines;

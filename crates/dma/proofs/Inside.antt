@@ -8,7 +8,8 @@ use borrow.Author.Tests.{ltb-true, ltb-false, lt-ltb, le-ltb}
 use lib.Dec.{ltb}
 use lib.ListN.{length, get_or, set, length-set, get_or-eq_default}
 use lib.Seq.{set_out}
-use Rattle.bits.specs.Choice.{if◌then◌else◌, ◌and◌}
+use Rattle.bits.specs.Choice.{◌and◌}
+use Rattle.std.specs.Prelude.{if◌then◌else◌}
 use Rattle.dma.specs.Cycle.{in_memory, peek_of, poke_of}
 use Rattle.dma.proofs.Lists.{get_d_any}
 

@@ -5,7 +5,8 @@ use mathlib.Core.List.{List}
 use Prim.Native.Nat.{ℕ, ◌+◌, ◌*◌, ◌/◌}
 use native.Mathlib.Omega.{arith}
 use lib.Dec.{ltb}
-use Rattle.bits.specs.Choice.{if◌then◌else◌, ◌and◌, ◌or◌}
+use Rattle.bits.specs.Choice.{◌and◌, ◌or◌}
+use Rattle.std.specs.Prelude.{if◌then◌else◌}
 use Rattle.dma.specs.declared.Channel.{Channel}
 use Rattle.dma.specs.Fields.{word}
 use Rattle.dma.specs.Cycle.{in_memory, peek_of, poke_of, writes, reads, start_of, place, carried, carried_of, memory_of}

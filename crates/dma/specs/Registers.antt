@@ -1,7 +1,7 @@
 -- The registers, by their number A3-A0: what a write does, and what a read shows. Status 0 is done, 2 where the register is
 -- not open to it, 4 where it asks for what is not built, or for words on the 8-bit bus; 2 and 4 change nothing.
-use Rattle.std.specs.Prelude.{ℕ, ◌+◌, ◌*◌, ◌/◌, ◌%◌, [], ◌∷◌, Bool, true, false, not, eqb, ltb, leb, set}
-use Rattle.bits.specs.Choice.{if◌then◌else◌, ◌and◌, ◌or◌}
+use Rattle.std.specs.Prelude.{ℕ, ◌+◌, ◌*◌, ◌/◌, ◌%◌, [], ◌∷◌, Bool, true, false, not, eqb, ltb, leb, set, if◌then◌else◌}
+use Rattle.bits.specs.Choice.{◌and◌, ◌or◌}
 use Rattle.bits.specs.Bits.{bit_of, with_of, masked_of, weighed}
 use Rattle.dma.specs.declared.Span.{Span}
 use Rattle.dma.specs.declared.Channel.{Channel}

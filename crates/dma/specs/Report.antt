@@ -1,7 +1,6 @@
 -- What a bus cycle reports, in numbers.
-use Rattle.std.specs.Prelude.{ℕ, ◌≡◌, refl, eqb, Bool, true, false}
+use Rattle.std.specs.Prelude.{ℕ, ◌≡◌, refl, eqb, Bool, true, false, if◌then◌else◌}
 use Rattle.std.proofs.Common.{sym, ap, ◌∙◌}
-use Rattle.bits.specs.Choice.{if◌then◌else◌}
 use Rattle.dma.specs.declared.Report.{Report}
 use Rattle.dma.specs.declared.Report.TheVariants.{Nothing, Granted, Moved, Released}
 

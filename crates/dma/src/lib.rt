@@ -2,8 +2,7 @@
 // Not modelled: memory to memory, software requests, cascade, bus timing.
 #![tactic(auto)]
 
-ghost use Rattle.std.specs.Prelude.{◌≡◌, Bool, not, [], ◌+◌, ◌≤◌, ◌<◌, ltb, set, length};
-ghost use Rattle.bits.specs.Choice.{if◌then◌else◌};
+ghost use Rattle.std.specs.Prelude.{◌≡◌, Bool, not, [], ◌+◌, ◌≤◌, ◌<◌, ltb, set, length, if◌then◌else◌};
 ghost use Rattle.dma.specs.Fields.{chan, channels_are};
 ghost use Rattle.dma.specs.Registers.{reset_of, requested_of, taken, refused, any_words, initialized_of, selected_of, replaced_of, loaded_of, kept_first, controlled_of, held_zero, unbuilt_mode, refuses_mode, moded_of, masked_by, write_of, shows, unread, seen_as, byte_at, shown_span, masks_of, read_of, seen_of};
 ghost use Rattle.dma.specs.Report.{told, nothing};

@@ -5,8 +5,9 @@ use mathlib.Core.Bool.{Bool, true, false, not, true≢false, false≢true}
 use mathlib.Core.List.{[], ◌∷◌}
 use native.Mathlib.Omega.{arith}
 use lib.Dec.{eqb, ltb}
-use borrow.Author.Tests.{eqb-true, eqb-false, ltb-true, ltb-false, eq-eqb, ne_eqb, lt-ltb, le-ltb}
-use Rattle.bits.specs.Choice.{if◌then◌else◌, ◌and◌, ◌or◌, every}
+use borrow.Author.Tests.{eqb-true, eqb-false, ltb-true, ltb-false, eq-eqb, ne_eqb, lt-ltb}
+use Rattle.bits.specs.Choice.{◌and◌, ◌or◌, every}
+use Rattle.std.specs.Prelude.{if◌then◌else◌}
 use Rattle.bits.specs.Bits.{bit_of}
 use Rattle.bits.proofs.Every.{alike}
 use Rattle.icu.specs.declared.Icu.{Icu}

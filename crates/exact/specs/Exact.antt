@@ -1,7 +1,7 @@
 -- The ranges are exact: the values that some board reached from reset has in a field are those of the field's range, and no others. docs/RANGES.md
 -- lists them in the same order.
-use Rattle.std.specs.Prelude.{ℕ, ◌/◌, ◌%◌, ◌<◌, ◌≡◌, ◌↔◌, Bool, true, not, [], ◌∷◌, eqb, get_or}
-use Rattle.bits.specs.Choice.{if◌then◌else◌, ◌and◌, ◌or◌}
+use Rattle.std.specs.Prelude.{ℕ, ◌/◌, ◌%◌, ◌<◌, ◌≡◌, ◌↔◌, Bool, true, not, [], ◌∷◌, eqb, get_or, if◌then◌else◌}
+use Rattle.bits.specs.Choice.{◌and◌, ◌or◌}
 use Rattle.bits.specs.Bits.{bit_of}
 use Rattle.icu.specs.declared.Icu.{Icu}
 use Rattle.timer.specs.declared.Counter.{Counter}

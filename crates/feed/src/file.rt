@@ -2,9 +2,15 @@
 // it is whole.
 use crate::look;
 use crate::look::Known;
+use std::fs;
+use std::fs::{File, OpenOptions, Permissions};
+use std::io::{Error, ErrorKind, Read};
+use std::os::fd::{AsFd, AsRawFd};
+use std::os::unix::fs::{PermissionsExt, fchown};
+use std::path::PathBuf;
 
 // How a run over a file ended, and whether the new file is in its place.
-#[derive(Drop)]
+#[derive(Clone, Copy)]
 struct Ended {
     status: u8,
     placed: bool,
@@ -18,7 +24,7 @@ fn refuse() -> Ended {
 }
 
 // Links are followed: the file behind them gets the memory.
-pub fn run_over(path: &[u8]) -> u8 {
+pub fn run_over(rt: &HostRuntime, path: &[u8]) -> u8 {
     if 4095 < path.len() {
         report::say_of(
             path,
@@ -26,16 +32,31 @@ pub fn run_over(path: &[u8]) -> u8 {
         );
         return report::FAILED;
     }
-    let known = look::look_at(path);
-    if known.mode == 0 {
-        report::fail(path);
+    if look::text_of(path).is_err() {
+        report::say_of(
+            path,
+            b": not UTF-8, and a path has to be; nothing was run\n",
+        );
         return report::FAILED;
     }
+    let known = match look::look_at(rt, path) {
+        Ok(known) => known,
+        Err(error) => {
+            report::fail_of(path, &error);
+            return report::FAILED;
+        }
+    };
     if !is_regular(path, known) {
         return report::FAILED;
     }
     let mut real = io::buffer();
-    let n = follow(path, &mut real);
+    let n = match follow(rt, path, &mut real) {
+        Ok(n) => n,
+        Err(error) => {
+            report::fail_of(path, &error);
+            return report::FAILED;
+        }
+    };
     if n == 0 {
         report::say_of(
             path,
@@ -43,11 +64,11 @@ pub fn run_over(path: &[u8]) -> u8 {
         );
         return report::FAILED;
     }
-    take_followed(&real, n)
+    take_followed(rt, &real, n)
 }
 
 fn is_regular(path: &[u8], known: Known) -> bool {
-    if known.mode & libc::S_IFMT == libc::S_IFREG {
+    if known.regular {
         return true;
     }
     report::say_of(
@@ -58,42 +79,39 @@ fn is_regular(path: &[u8], known: Known) -> bool {
 }
 
 // The path with its last part's links followed, of which the system takes forty; answers its length, or 0 where that does not end or is too long.
-fn follow(path: &[u8], real: &mut [u8; 4096]) -> usize {
+fn follow(rt: &HostRuntime, path: &[u8], real: &mut [u8; 4096]) -> Result<usize, Error> {
     let mut n = place(real, 0, path);
     let mut links: usize = 0;
     while links < 41 {
-        let s = pass_link(real, n);
+        let s = pass_link(rt, real, n)?;
         if !s.more {
-            return n;
+            return Ok(n);
         }
         n = s.n;
         links += 1;
     }
-    0
+    Ok(0)
 }
 
 // One link: whether there was one, and the length of the path behind it.
-#[derive(Drop)]
+#[derive(Clone, Copy)]
 struct Step {
     more: bool,
     n: usize,
 }
 
-fn pass_link(real: &mut [u8; 4096], n: usize) -> Step {
-    let mut text = io::buffer();
-    let got = read_link(real, n, &mut text);
-    if got <= 0 {
-        return Step { more: false, n: n };
+fn pass_link(rt: &HostRuntime, real: &mut [u8; 4096], n: usize) -> Result<Step, Error> {
+    match read_link(rt, real, n)? {
+        Some(text) => Ok(turn(real, n, text.as_path().as_str().as_bytes())),
+        None => Ok(Step { more: false, n: n }),
     }
-    let m = io::count(got, &text);
-    turn(real, n, &text[..m])
 }
 
-fn read_link(real: &[u8], n: usize, text: &mut [u8]) -> isize {
+fn read_link(rt: &HostRuntime, real: &[u8], n: usize) -> Result<Option<PathBuf>, Error> {
     if n <= real.len() {
-        return look::read_link(&real[..n], text);
+        return look::read_link(rt, &real[..n]);
     }
-    -1
+    Ok(None)
 }
 
 // A link's text counts from the folder that the link is in, unless it begins with a stroke.
@@ -146,30 +164,30 @@ fn place(real: &mut [u8; 4096], from: usize, text: &[u8]) -> usize {
 }
 
 // The arrays as slices: their length is known by their type here.
-fn take_followed(real: &[u8; 4096], n: usize) -> u8 {
-    take_part(real, n)
+fn take_followed(rt: &HostRuntime, real: &[u8; 4096], n: usize) -> u8 {
+    take_part(rt, real, n)
 }
 
-fn take_part(real: &[u8], n: usize) -> u8 {
+fn take_part(rt: &HostRuntime, real: &[u8], n: usize) -> u8 {
     if n <= real.len() {
-        return take_file(&real[..n]);
+        return take_file(rt, &real[..n]);
     }
     report::FAILED
 }
 
-fn take_file(path: &[u8]) -> u8 {
+fn take_file(rt: &HostRuntime, path: &[u8]) -> u8 {
     let mut name = [0u8; 4100];
     let length = name_new(path, &mut name);
-    take_named(path, &name, length)
+    take_named(rt, path, &name, length)
 }
 
-fn take_named(path: &[u8], name: &[u8; 4100], length: usize) -> u8 {
-    take_under(path, name, length)
+fn take_named(rt: &HostRuntime, path: &[u8], name: &[u8; 4100], length: usize) -> u8 {
+    take_under(rt, path, name, length)
 }
 
-fn take_under(path: &[u8], name: &[u8], length: usize) -> u8 {
+fn take_under(rt: &HostRuntime, path: &[u8], name: &[u8], length: usize) -> u8 {
     if length <= name.len() {
-        return lock(path, &name[..length]);
+        return lock(rt, path, &name[..length]);
     }
     report::FAILED
 }
@@ -192,97 +210,148 @@ fn name_new(path: &[u8], name: &mut [u8; 4100]) -> usize {
 }
 
 // The lock goes where the run ends, unless it has become the file.
-fn lock(path: &[u8], new: &[u8]) -> u8 {
-    let fd = os::create(new);
-    if fd < 0 {
-        return tell_locked(new);
-    }
-    let ended = hold_apart(path, new, fd);
+fn lock(rt: &HostRuntime, path: &[u8], new: &[u8]) -> u8 {
+    let file = match create(rt, new) {
+        Ok(file) => file,
+        Err(error) => return tell_locked(new, &error),
+    };
+    let ended = hold_apart(rt, path, new, &file);
     if !ended.placed {
-        unlock(new, fd);
+        unlock(rt, new, &file);
     }
-    libc::close(fd);
     ended.status
 }
 
-// Whether the lock's name still means the file that was made: somebody may have removed it, and another feed have made its own.
-fn is_ours(new: &[u8], fd: i32) -> bool {
-    look::is_same(look::look(fd), look::look_at(new))
+fn create(rt: &HostRuntime, new: &[u8]) -> Result<File, Error> {
+    OpenOptions::new()
+        .write(true)
+        .create_new(true)
+        .open(rt, look::text_of(new)?)
 }
 
-fn unlock(new: &[u8], fd: i32) {
-    if is_ours(new, fd) {
-        os::unlink(new);
+// Whether the lock's name still means the file that was made: somebody may have removed it, and another feed have made its own.
+fn is_ours(rt: &HostRuntime, new: &[u8], file: &File) -> bool {
+    let Ok(made) = look::look(file) else {
+        return false;
+    };
+    let Ok(named) = look::look_at(rt, new) else {
+        return false;
+    };
+    look::is_same(made, named)
+}
+
+fn unlock(rt: &HostRuntime, new: &[u8], file: &File) {
+    if is_ours(rt, new, file) {
+        let _ = unlink(rt, new);
     }
 }
 
+fn unlink(rt: &HostRuntime, new: &[u8]) -> Result<(), Error> {
+    fs::remove_file(rt, look::text_of(new)?)
+}
+
 // Where standard input, output or error is closed, the first file that is opened takes its place, and answers or messages would go into it.
-fn hold_apart(path: &[u8], new: &[u8], fd: i32) -> Ended {
-    if fd <= libc::STDERR_FILENO {
+fn hold_apart(rt: &HostRuntime, path: &[u8], new: &[u8], file: &File) -> Ended {
+    if file.as_raw_fd() <= report::STDERR {
         report::say_of(
             path,
             b": nothing was run, standard input, output or error is closed\n",
         );
         return refuse();
     }
-    hold(path, new, fd)
+    hold(rt, path, new, file)
 }
 
-fn tell_locked(new: &[u8]) -> u8 {
-    if os::errno() == libc::EEXIST {
+fn tell_locked(new: &[u8], error: &Error) -> u8 {
+    if error.kind() == ErrorKind::AlreadyExists {
         report::say_of(
             new,
             b" is there already: another feed is running on this memory, or one was stopped before its end, as by Ctrl-C. Nothing was run.\nIf none is running, remove that file and start again; the memory is as it was before that feed.\n",
         );
         return report::FAILED;
     }
-    report::print_name(libc::STDERR_FILENO, new);
-    os::fail(b": cannot be made, nothing was run");
+    report::print_name(report::STDERR, new);
+    report::fail_with(b": cannot be made, nothing was run", error);
     report::FAILED
 }
 
 // The lock is ours: nothing else changes the file now. What is read here is of the file that was opened, whatever its name has come to mean.
-fn hold(path: &[u8], new: &[u8], fd: i32) -> Ended {
-    let old = os::open_update(path);
-    if old < 0 {
-        report::print_name(libc::STDERR_FILENO, path);
-        os::fail(b": cannot be read and written, nothing was run");
-        return refuse();
-    }
-    let known = look::look(old);
-    if !make_alike(path, new, fd, known) {
-        libc::close(old);
+fn hold(rt: &HostRuntime, path: &[u8], new: &[u8], file: &File) -> Ended {
+    let old = match open_update(rt, path) {
+        Ok(old) => old,
+        Err(error) => {
+            report::print_name(report::STDERR, path);
+            report::fail_with(b": cannot be read and written, nothing was run", &error);
+            return refuse();
+        }
+    };
+    let known = match look::look(&old) {
+        Ok(known) => known,
+        Err(error) => {
+            report::fail_of(path, &error);
+            return refuse();
+        }
+    };
+    if !make_alike(rt, path, new, file, known) {
         return refuse();
     }
     let mut memory = [0u8; 1048576];
-    lend(path, new, fd, old, known.mode, &mut memory)
+    lend(rt, path, new, file, old, known.mode, &mut memory)
+}
+
+fn open_update(rt: &HostRuntime, path: &[u8]) -> Result<File, Error> {
+    OpenOptions::new()
+        .read(true)
+        .write(true)
+        .open(rt, look::text_of(path)?)
 }
 
 // The new file gets the old one's owner and mode.
-fn make_alike(path: &[u8], new: &[u8], fd: i32, known: Known) -> bool {
+fn make_alike(rt: &HostRuntime, path: &[u8], new: &[u8], file: &File, known: Known) -> bool {
     if !is_regular(path, known) {
         return false;
     }
-    if look::is_same(known, look::look(libc::STDOUT_FILENO)) {
+    let output = match look::look_at(rt, OUTPUT) {
+        Ok(output) => output,
+        Err(error) => {
+            report::print_name(report::STDERR, path);
+            report::fail_with(
+                b": nothing was run, it is not known whether the answers would go into this file: /proc/self/fd/1",
+                &error,
+            );
+            return false;
+        }
+    };
+    if look::is_same(known, output) {
         report::say_of(
             path,
             b": nothing was run, the answers would go into the memory's own file\n",
         );
         return false;
     }
-    if !is_owned_alike(look::look(fd), known) {
-        if libc::fchown(fd, known.owner, known.group) < 0 {
-            report::print_name(libc::STDERR_FILENO, path);
-            os::fail(b": nothing was run, its owner could not be kept");
+    let made = match look::look(file) {
+        Ok(made) => made,
+        Err(error) => {
+            report::fail_of(new, &error);
+            return false;
+        }
+    };
+    if !is_owned_alike(made, known) {
+        if let Err(error) = fchown(file.as_fd(), Some(known.owner), Some(known.group)) {
+            report::print_name(report::STDERR, path);
+            report::fail_with(b": nothing was run, its owner could not be kept", &error);
             return false;
         }
     }
-    give_mode(new, fd, known.mode)
+    give_mode(new, file, known.mode)
 }
 
-fn give_mode(new: &[u8], fd: i32, mode: u32) -> bool {
-    if libc::fchmod(fd, mode & 0o7777) < 0 {
-        report::fail(new);
+// What standard output is, as a name of the system's own: std looks at no descriptor that it did not open.
+const OUTPUT: &[u8] = b"/proc/self/fd/1";
+
+fn give_mode(new: &[u8], file: &File, mode: u32) -> bool {
+    if let Err(error) = file.set_permissions(Permissions::from_mode(mode & 0o7777)) {
+        report::fail_of(new, &error);
         return false;
     }
     true
@@ -296,27 +365,37 @@ fn is_owned_alike(made: Known, known: Known) -> bool {
 }
 
 fn lend(
+    rt: &HostRuntime,
     path: &[u8],
     new: &[u8],
-    fd: i32,
-    old: i32,
+    file: &File,
+    old: File,
     mode: u32,
     memory: &mut [u8; 1048576],
 ) -> Ended {
-    load(path, new, fd, old, mode, memory)
+    load(rt, path, new, file, old, mode, memory)
 }
 
 // The file's bytes are the memory, if there are no more of them than fit.
-fn load(path: &[u8], new: &[u8], fd: i32, old: i32, mode: u32, memory: &mut [u8]) -> Ended {
-    let n = io::read_full(old, memory);
+fn load(
+    rt: &HostRuntime,
+    path: &[u8],
+    new: &[u8],
+    file: &File,
+    mut old: File,
+    mode: u32,
+    memory: &mut [u8],
+) -> Ended {
+    let n = io::read_full(old.as_raw_fd(), memory);
     let mut past = [0u8; 1];
-    let more = libc::read(old, &mut past);
-    if more < 0 {
-        report::fail(path);
-        libc::close(old);
-        return refuse();
-    }
-    libc::close(old);
+    let more = match old.read(&mut past) {
+        Ok(more) => more,
+        Err(error) => {
+            report::fail_of(path, &error);
+            return refuse();
+        }
+    };
+    drop(old);
     if more > 0 {
         report::say_of(
             path,
@@ -324,14 +403,21 @@ fn load(path: &[u8], new: &[u8], fd: i32, old: i32, mode: u32, memory: &mut [u8]
         );
         return refuse();
     }
-    run_and_save(path, new, fd, mode, &mut memory[..n])
+    run_and_save(rt, path, new, file, mode, &mut memory[..n])
 }
 
 // A run that failed leaves the file as it was.
-fn run_and_save(path: &[u8], new: &[u8], fd: i32, mode: u32, memory: &mut [u8]) -> Ended {
-    let ran = crate::run(memory);
+fn run_and_save(
+    rt: &HostRuntime,
+    path: &[u8],
+    new: &[u8],
+    file: &File,
+    mode: u32,
+    memory: &mut [u8],
+) -> Ended {
+    let ran = crate::run(rt, memory);
     if ran.keep {
-        if save(path, new, fd, mode, memory) {
+        if save(rt, path, new, file, mode, memory) {
             return Ended {
                 status: ran.status,
                 placed: true,
@@ -353,37 +439,41 @@ fn tell_left(path: &[u8]) {
 }
 
 // The new file is whole, and on its device, before it takes the old one's place.
-fn save(path: &[u8], new: &[u8], fd: i32, mode: u32, memory: &[u8]) -> bool {
-    if !is_written(new, fd, mode, memory) {
+fn save(rt: &HostRuntime, path: &[u8], new: &[u8], file: &File, mode: u32, memory: &[u8]) -> bool {
+    if !is_written(new, file, mode, memory) {
         tell_left(path);
         return false;
     }
-    if !is_ours(new, fd) {
+    if !is_ours(rt, new, file) {
         report::say_of(
             new,
             b": was removed while this feed ran, and the memory was not saved\n",
         );
         return false;
     }
-    if os::rename(new, path) < 0 {
-        report::fail(new);
+    if let Err(error) = rename(rt, new, path) {
+        report::fail_of(new, &error);
         tell_left(path);
         return false;
     }
     true
 }
 
+fn rename(rt: &HostRuntime, new: &[u8], path: &[u8]) -> Result<(), Error> {
+    fs::rename(rt, look::text_of(new)?, look::text_of(path)?)
+}
+
 // The mode is given again after the bytes, since a write may take some of it away: the bits of a program that runs as its owner.
-fn is_written(new: &[u8], fd: i32, mode: u32, memory: &[u8]) -> bool {
-    if !io::write_all(fd, memory) {
+fn is_written(new: &[u8], file: &File, mode: u32, memory: &[u8]) -> bool {
+    if !io::write_all(file.as_raw_fd(), memory) {
         report::fail(new);
         return false;
     }
-    if !give_mode(new, fd, mode) {
+    if !give_mode(new, file, mode) {
         return false;
     }
-    if libc::fsync(fd) < 0 {
-        report::fail(new);
+    if let Err(error) = file.sync_all() {
+        report::fail_of(new, &error);
         return false;
     }
     true

@@ -1,13 +1,14 @@
-// What the system knows of a file, and where a link leads. A path has at most 4,095 bytes, none of them 0: the argument that it comes from has no 0, and `file` sees to
-// its length.
-ghost use Rattle.libc.specs.Io.{Ended};
+// What the system knows of a file, and where a link leads. A path is text to std: a name that is not UTF-8 is refused.
+use std::fs;
+use std::fs::{File, Metadata};
+use std::io::{Error, ErrorKind};
+use std::os::unix::fs::MetadataExt;
+use std::path::PathBuf;
 
-use libc::PATH_MAX;
-use libc::types::{stat, timespec};
-
-// Its mode, which has the kind of file too, its owner, and the two numbers that no other file has. Where there is no such file the mode is 0, and errno says why.
-#[derive(Drop)]
+// Whether it is a regular file, its mode, its owner, and the two numbers that no other file has.
+#[derive(Clone, Copy)]
 pub struct Known {
+    pub regular: bool,
     pub mode: u32,
     pub owner: u32,
     pub group: u32,
@@ -15,81 +16,19 @@ pub struct Known {
     pub number: u64,
 }
 
-// What C's fstat or stat answered, and what it left behind the reference that it was lent.
-#[derive(Drop)]
-pub struct Answer {
-    pub status: i32,
-    pub left: stat,
-}
-
-fn blank() -> stat {
-    let t = timespec {
-        tv_sec: 0,
-        tv_nsec: 0,
-    };
-    stat {
-        st_dev: 0,
-        st_ino: 0,
-        st_nlink: 0,
-        st_mode: 0,
-        st_uid: 0,
-        st_gid: 0,
-        __pad: 0,
-        st_rdev: 0,
-        st_size: 0,
-        st_blksize: 0,
-        st_blocks: 0,
-        st_atim: t,
-        st_mtim: t,
-        st_ctim: t,
-        __unused: [0i64; 3],
-    }
-}
-
-// The two functions that lend a struct to C are proved by hand, and do nothing else.
-fn ask_fd(fd: i32, mut s: stat) -> Answer {
-    let status = libc::fstat(fd, &mut s);
-    Answer {
-        status: status,
-        left: s,
-    }
-}
-
-fn ask_path(path: &[u8; PATH_MAX], mut s: stat) -> Answer
-    requires { Ended path.now }
-{
-    let status = libc::stat(path, &mut s);
-    Answer {
-        status: status,
-        left: s,
-    }
-}
-
-fn known_of(a: Answer) -> Known {
-    if a.status != 0 {
-        return Known {
-            mode: 0,
-            owner: 0,
-            group: 0,
-            device: 0,
-            number: 0,
-        };
-    }
-    let s = a.left;
+fn known_of(a: &Metadata) -> Known {
     Known {
-        mode: s.st_mode,
-        owner: s.st_uid,
-        group: s.st_gid,
-        device: s.st_dev,
-        number: s.st_ino,
+        regular: a.is_file(),
+        mode: a.mode(),
+        owner: a.uid(),
+        group: a.gid(),
+        device: a.dev(),
+        number: a.ino(),
     }
 }
 
 // Whether two are the same file.
 pub fn is_same(a: Known, b: Known) -> bool {
-    if a.mode == 0 {
-        return false;
-    }
     if a.device == b.device {
         return a.number == b.number;
     }
@@ -97,35 +36,34 @@ pub fn is_same(a: Known, b: Known) -> bool {
 }
 
 // Of an open file.
-pub fn look(fd: i32) -> Known {
-    known_of(ask_fd(fd, blank()))
+pub fn look(file: &File) -> Result<Known, Error> {
+    let found = file.metadata()?;
+    Ok(known_of(&found))
 }
 
 // Of the file behind a path, through links.
-pub fn look_at(path: &[u8]) -> Known {
-    let p = ended(path);
-    known_of(ask_path(&p, blank()))
+pub fn look_at(rt: &HostRuntime, path: &[u8]) -> Result<Known, Error> {
+    let found = fs::metadata(rt, text_of(path)?)?;
+    Ok(known_of(&found))
 }
 
-// A link's text, as `libc::readlink` answers it: -1 where there is no link.
-pub fn read_link(path: &[u8], text: &mut [u8]) -> isize {
-    let p = ended(path);
-    libc::readlink(&p, text)
-}
-
-// As much of a path as leaves room for a 0, and then zeros.
-fn ended(path: &[u8]) -> [u8; PATH_MAX]
-    ensures { Ended result }
-{
-    let mut e = io::buffer();
-    let mut i = 0;
-    while i < path.len() {
-        if 4094 < i {
-            break;
+// A link's text, or none where there is no link.
+pub fn read_link(rt: &HostRuntime, path: &[u8]) -> Result<Option<PathBuf>, Error> {
+    match fs::read_link(rt, text_of(path)?) {
+        Ok(text) => Ok(Some(text)),
+        Err(error) => {
+            if error.raw_os_error().is_some() {
+                return Ok(None);
+            }
+            Err(error)
         }
-        e[i] = path[i];
-        i += 1;
     }
-    e[4095] = 0;
-    e
+}
+
+// A path as std takes it.
+pub fn text_of(path: &[u8]) -> Result<&str, Error> {
+    match str::from_utf8(path) {
+        Ok(text) => Ok(text),
+        Err(_) => Err(Error::from(ErrorKind::InvalidFilename)),
+    }
 }

@@ -1,13 +1,15 @@
 // feed [MEMORY]: feeds the tape on standard input to a board that was just reset, and writes the raw answers to standard output.
 // MEMORY is a file whose bytes are the lent memory; it holds the memory after the run, or is as it was if anything failed.
+#![tactic(auto)]
+
 mod file;
 mod look;
 
 use board::Board;
-use libc::{STDERR_FILENO, STDIN_FILENO, STDOUT_FILENO};
+use std::io::{IsTerminal, Read};
 
 // One lump of the tape: whether there may be another, how many records it ended, and how it went.
-#[derive(Drop)]
+#[derive(Clone, Copy)]
 struct Lump {
     more: bool,
     records: usize,
@@ -16,14 +18,14 @@ struct Lump {
 }
 
 // A whole tape: how it went, and whether the memory after it is to be kept.
-#[derive(Drop)]
+#[derive(Clone, Copy)]
 pub struct Outcome {
     pub status: u8,
     pub keep: bool,
 }
 
 fn say(text: &[u8]) {
-    io::write_all(STDERR_FILENO, text);
+    io::write_all(report::STDERR, text);
 }
 
 fn last_lump(status: u8, board: Board) -> Lump {
@@ -44,22 +46,24 @@ fn send(answers: &[u8], k: usize) -> bool {
     if answers.len() < end {
         return false;
     }
-    io::write_all(STDOUT_FILENO, &answers[..end])
+    io::write_all(report::STDOUT, &answers[..end])
 }
 
 // Feeds what one read of standard input gives.
-fn feed_lump(board: Board, memory: &mut [u8]) -> Lump {
+fn feed_lump(rt: &HostRuntime, board: Board, memory: &mut [u8]) -> Lump {
     let mut lump = io::large_buffer();
     let mut answers = [0u8; 131072];
-    let got = libc::read(STDIN_FILENO, &mut lump);
-    if got < 0 {
-        os::fail(b"feed: standard input");
-        return last_lump(report::FAILED, board);
-    }
-    if got == 0 {
+    let mut stdin = rt.stdin();
+    let n = match stdin.read(&mut lump) {
+        Ok(n) => n,
+        Err(error) => {
+            report::fail_with(b"feed: standard input", &error);
+            return last_lump(report::FAILED, board);
+        }
+    };
+    if n == 0 {
         return last_lump(report::WELL, board);
     }
-    let n = io::count(got, &lump);
     let fed = intake::feed(board, &lump[..n], memory, &mut answers);
     let next = fed.board;
     if fed.status != 0 {
@@ -84,7 +88,7 @@ fn end_tape(board: Board) -> u8 {
         return report::WELL;
     }
     say(b"feed: the tape ends inside a record; bytes left over: ");
-    io::print_decimal(STDERR_FILENO, left as u64);
+    io::print_decimal(report::STDERR, left as u64);
     say(b"\n");
     report::FAILED
 }
@@ -105,12 +109,12 @@ fn end_run(last: Lump, some: bool) -> Outcome {
 }
 
 // Feeds the whole tape.
-pub fn run(memory: &mut [u8]) -> Outcome {
+pub fn run(rt: &HostRuntime, memory: &mut [u8]) -> Outcome {
     let mut board = Board::reset();
     let mut some = false;
     let mut turns = u64::MAX;
     while turns > 0 {
-        let lump = feed_lump(board, memory);
+        let lump = feed_lump(rt, board, memory);
         if !lump.more {
             return end_run(lump, some);
         }
@@ -133,7 +137,7 @@ fn tell_usage() -> u8 {
     report::USAGE
 }
 
-fn take_word(word: &[u8]) -> u8 {
+fn take_word(rt: &HostRuntime, word: &[u8]) -> u8 {
     if word.len() == 0 {
         say(b"feed: MEMORY is empty: it has to name a file\n");
         return tell_usage();
@@ -144,37 +148,39 @@ fn take_word(word: &[u8]) -> u8 {
         );
         return tell_usage();
     }
-    tell_terminal();
-    file::run_over(word)
+    tell_terminal(rt);
+    file::run_over(rt, word)
 }
 
 // Whoever gives the tape as MEMORY, and no tape, would wait with nothing said.
-fn tell_terminal() {
-    if libc::isatty(STDIN_FILENO) == 1 {
+fn tell_terminal(rt: &HostRuntime) {
+    if rt.stdin().is_terminal() {
         say(b"feed: the tape comes from the terminal, up to Ctrl-D\n");
     }
 }
 
-fn take_arguments() -> u8 {
-    let words = os::arg_count();
+fn take_arguments(rt: &HostRuntime) -> u8 {
+    let words = report::arg_count(rt);
     if 2 < words {
         say(b"feed: there is one MEMORY at the most; the tape is standard input\n");
         return tell_usage();
     }
     if words < 2 {
-        tell_terminal();
+        tell_terminal(rt);
         let mut none = [0u8; 1];
-        return run(&mut none[..0]).status;
+        return run(rt, &mut none[..0]).status;
     }
     let mut word = io::buffer();
-    let n = os::arg(1, &mut word);
-    if os::errno() != 0 {
-        os::fail(b"feed: MEMORY");
-        return report::FAILED;
-    }
-    take_word(&word[..n])
+    let n = match report::arg(rt, 1, &mut word) {
+        Ok(n) => n,
+        Err(error) => {
+            report::fail_with(b"feed: MEMORY", &error);
+            return report::FAILED;
+        }
+    };
+    take_word(rt, &word[..n])
 }
 
-fn main() {
-    report::end(take_arguments());
+fn main(rt: HostRuntime) {
+    report::end(take_arguments(&rt));
 }

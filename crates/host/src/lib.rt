@@ -1,5 +1,7 @@
 // The board for programs in other languages: a static library of four functions in C's calling convention. Each is the function it
 // calls, and keeps its promise. The declarations in hosts/ say the same for C and for Rust.
+#![tactic(auto)]
+
 ghost use Rattle.std.specs.Prelude.{◌≡◌, length};
 ghost use Rattle.board.specs.Wiring.{fresh_of};
 ghost use Rattle.intake.specs.Ranges.{in_range};

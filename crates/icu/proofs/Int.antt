@@ -1,13 +1,14 @@
 -- INT, found by the highest-ranked level that is asked for and the highest-ranked level in service.
 use mathlib.Core.Bool.{Bool, true, false, true≢false}
-use mathlib.Core.Path.{◌≡◌, refl, sym, ◌∙◌, ap, subst}
+use mathlib.Core.Path.{◌≡◌, refl, sym, ◌∙◌, subst}
 use mathlib.Core.Logic.{⊎_elim}
 use native.Mathlib.Nat.{eq-or-lt_of_le}
-use Prim.Native.Nat.{ℕ, zero, suc, ◌+◌, ◌-◌, ◌%◌, ◌<◌, ◌≤◌}
+use Prim.Native.Nat.{ℕ, zero, suc, ◌+◌, ◌<◌, ◌≤◌}
 use native.Mathlib.Omega.{arith}
 use lib.Dec.{ltb}
 use borrow.Author.Tests.{lt-ltb, le-ltb, ltb-true, ltb-false}
-use Rattle.bits.specs.Choice.{if◌then◌else◌, ◌and◌, every, some}
+use Rattle.bits.specs.Choice.{◌and◌, every, some}
+use Rattle.std.specs.Prelude.{if◌then◌else◌}
 use Rattle.bits.specs.Bits.{bit_of}
 use Rattle.bits.proofs.Every.{some_true, some_false, every_true, every_false}
 use Rattle.icu.specs.Ranks.{highest_from, highest_of, level_at, rank_of, outranks}

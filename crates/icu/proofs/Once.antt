@@ -2,7 +2,7 @@
 use mathlib.Core.Path.{◌≡◌, refl, sym, ap, ◌∙◌}
 use lib.Dec.{eqb}
 use lib.ListN.{get_or}
-use Rattle.bits.specs.Choice.{if◌then◌else◌}
+use Rattle.std.specs.Prelude.{if◌then◌else◌}
 use Rattle.icu.specs.declared.Icu.{Icu}
 use Rattle.icu.specs.declared.Written.{Written}
 use Rattle.icu.specs.declared.Written.TheVariants.{Taken, OutOfTurn, NotBuilt}

@@ -2,7 +2,8 @@
 use mathlib.Core.Bool.{Bool, true, false}
 use mathlib.Core.Path.{◌≡◌, refl}
 use Prim.Native.Nat.{ℕ}
-use Rattle.bits.specs.Choice.{if◌then◌else◌, ◌and◌}
+use Rattle.bits.specs.Choice.{◌and◌}
+use Rattle.std.specs.Prelude.{if◌then◌else◌}
 use Rattle.bits.specs.Bits.{with_of, without_of}
 use Rattle.icu.specs.declared.Icu.{Icu}
 use Rattle.icu.specs.Fields.{edges_is, isr_is, lowest_is}

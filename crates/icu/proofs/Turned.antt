@@ -4,7 +4,8 @@ use Prim.Native.Nat.{ℕ, zero, suc, ◌+◌, ◌*◌, ◌/◌, ◌%◌, ◌^◌
 use native.Mathlib.Omega.{arith}
 use lib.Dec.{eqb}
 use lib.Count.{count_trailing_zeros, trailing_le}
-use Rattle.bits.specs.Choice.{if◌then◌else◌, every}
+use Rattle.bits.specs.Choice.{every}
+use Rattle.std.specs.Prelude.{if◌then◌else◌}
 use Rattle.bits.specs.Bits.{bit_of}
 use Rattle.bits.proofs.Every.{agree}
 use Rattle.icu.specs.Ranks.{level_at, highest_from, highest_of}

@@ -1,6 +1,5 @@
 -- Ranks. With lowest level l they run l + 1, l + 2 and so on modulo 8, down to l itself.
-use Rattle.std.specs.Prelude.{ℕ, zero, suc, ◌+◌, ◌-◌, ◌%◌, Bool, ltb}
-use Rattle.bits.specs.Choice.{if◌then◌else◌}
+use Rattle.std.specs.Prelude.{ℕ, zero, suc, ◌+◌, ◌-◌, ◌%◌, Bool, ltb, if◌then◌else◌}
 use Rattle.bits.specs.Bits.{bit_of}
 
 -- The level of rank k; rank 0 is the highest.

@@ -1,7 +1,7 @@
 -- The request lines, IRR and INT.
-use Rattle.std.specs.Prelude.{ℕ, Bool, true, false, not}
+use Rattle.std.specs.Prelude.{ℕ, Bool, true, if◌then◌else◌}
 use Rattle.std.specs.Int.Bits.{bit_or}
-use Rattle.bits.specs.Choice.{if◌then◌else◌, ◌and◌, every, some}
+use Rattle.bits.specs.Choice.{◌and◌, every, some}
 use Rattle.bits.specs.Bits.{bit_of, masked_of}
 use Rattle.icu.specs.declared.Icu.{Icu}
 use Rattle.icu.specs.Fields.{edges_is}

@@ -1,6 +1,6 @@
 -- Reset, and the words that the processor writes.
-use Rattle.std.specs.Prelude.{ℕ, ◌%◌, Bool, true, false, eqb}
-use Rattle.bits.specs.Choice.{if◌then◌else◌, ◌and◌}
+use Rattle.std.specs.Prelude.{ℕ, ◌%◌, Bool, true, false, eqb, if◌then◌else◌}
+use Rattle.bits.specs.Choice.{◌and◌}
 use Rattle.bits.specs.Bits.{bit_of, without_of}
 use Rattle.icu.specs.declared.Icu.{Icu}
 use Rattle.icu.specs.Fields.{stage_is, iw2_is, iw4_is, imr_is, isr_is, lowest_is, showsisr_is, rotation_is}

@@ -3,8 +3,8 @@
 // Not modelled: polling, the exceptional nesting mode, the bits of IW4 but two, the pins' timing.
 #![tactic(auto)]
 
-ghost use Rattle.std.specs.Prelude.{◌≡◌, ◌≤◌};
-ghost use Rattle.bits.specs.Choice.{if◌then◌else◌, ◌and◌};
+ghost use Rattle.std.specs.Prelude.{◌≡◌, ◌≤◌, if◌then◌else◌};
+ghost use Rattle.bits.specs.Choice.{◌and◌};
 ghost use Rattle.bits.specs.Bits.{with_of, without_of};
 ghost use Rattle.icu.specs.Answers.{written_as, got_as, acknowledged_as};
 ghost use Rattle.icu.specs.Words.{reset_of, iw1, only_iw4, later_word, sets_exceptional, mcw, finished, pfcw, write_of};

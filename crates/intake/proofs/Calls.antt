@@ -1,20 +1,17 @@
 -- A call by the number of its bytes: refused for want of room, or run.
-use mathlib.Core.Bool.{Bool, true, false, not}
-use mathlib.Core.Path.{◌≡◌, refl, ap, ◌∙◌}
+use mathlib.Core.Bool.{true, false}
+use mathlib.Core.Path.{◌≡◌, ap, ◌∙◌}
 use mathlib.Core.List.{List, [], ◌∷◌, ◌++◌}
 use Prim.Native.Nat.{ℕ, ◌+◌, ◌*◌, ◌/◌, ◌%◌, ◌<◌, ◌≤◌}
 use native.Mathlib.Omega.{arith}
 use borrow.Author.Tests.{lt-ltb, le-ltb}
-use lib.Dec.{ltb}
 use lib.ListN.{length, drop, get_or, get_or-eq_default}
-use Rattle.bits.specs.Choice.{if◌then◌else◌, ◌and◌}
 use Rattle.tape.specs.Records.{held_of}
 use Rattle.board.specs.declared.Board.{Board}
 use Rattle.board.specs.Records.{after, fitting}
-use Rattle.intake.specs.declared.Fed.{Fed}
 use Rattle.intake.specs.Ranges.{in_range}
 use Rattle.intake.specs.Records.{rest_at}
-use Rattle.intake.specs.Feed.{bytes_of, count_of, taken, refused, keeping, fed_of, fed_memory, fed_answers}
+use Rattle.intake.specs.Feed.{bytes_of, count_of, taken, keeping, fed_of, fed_memory, fed_answers}
 use Rattle.intake.proofs.Ranges.{all_held}
 
 -- nothing is left where the records end with the bytes

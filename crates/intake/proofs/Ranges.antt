@@ -4,8 +4,7 @@ use mathlib.Core.Path.{◌≡◌, refl}
 use Prim.Native.Nat.{◌≤◌}
 use native.Mathlib.Omega.{arith}
 use borrow.Author.Tests.{ltb-true, le-ltb}
-use lib.Dec.{ltb}
-use Rattle.bits.specs.Choice.{if◌then◌else◌, ◌and◌}
+use Rattle.bits.specs.Choice.{◌and◌}
 use Rattle.tape.specs.Records.{held_of}
 use Rattle.board.specs.declared.Board.{Board}
 use Rattle.intake.specs.Ranges.{in_range}

@@ -1,6 +1,6 @@
 -- A call.
-use Rattle.std.specs.Prelude.{ℕ, ◌+◌, ◌*◌, ◌/◌, ◌%◌, Bool, not, List, ◌++◌, ltb, length, take, drop}
-use Rattle.bits.specs.Choice.{if◌then◌else◌, ◌and◌}
+use Rattle.std.specs.Prelude.{ℕ, ◌+◌, ◌*◌, ◌/◌, ◌%◌, Bool, not, List, ◌++◌, ltb, length, take, drop, if◌then◌else◌}
+use Rattle.bits.specs.Choice.{◌and◌}
 use Rattle.board.specs.declared.Board.{Board}
 use Rattle.board.specs.Records.{after}
 use Rattle.intake.specs.declared.Fed.{Fed}

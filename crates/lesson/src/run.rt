@@ -4,6 +4,7 @@ ghost use Rattle.std.specs.Prelude.{◌≤◌};
 use board::{Board, Stepped};
 use desk::Desk;
 use reader::filters;
+use reader::source::Source;
 use words::chips::Chips;
 
 // What the desk is shown of a board.
@@ -44,7 +45,7 @@ fn step_over(board: Board, r: [u8; 8], memory: &mut [u8], length: usize) -> Step
     board.step(r, &mut memory[0..n])
 }
 
-fn run(mode: u8, plain: bool, fd: i32, path: &[u8]) -> u8 {
+fn run(mode: u8, plain: bool, source: &Source, path: &[u8]) -> u8 {
     let mut line = [0u8; 1000];
     let mut lump = [0u8; 65536];
     let mut memory = [0u8; 65536];
@@ -55,7 +56,7 @@ fn run(mode: u8, plain: bool, fd: i32, path: &[u8]) -> u8 {
     while turns > 0 {
         desk = desk.take(
             chips_of(board),
-            fd,
+            source,
             path,
             &mut line,
             &mut lump,
@@ -80,10 +81,10 @@ fn run(mode: u8, plain: bool, fd: i32, path: &[u8]) -> u8 {
     report::FAILED
 }
 
-pub fn run_text(mode: u8, fd: i32, path: &[u8]) -> u8 {
-    let ready = filters::prepare(mode, fd, path);
+pub fn run_text(mode: u8, source: &Source, path: &[u8]) -> u8 {
+    let ready = filters::prepare(mode, source, path);
     if ready.status != report::WELL {
         return ready.status;
     }
-    run(mode, 0 < ready.questions, fd, path)
+    run(mode, 0 < ready.questions, source, path)
 }

@@ -7,7 +7,8 @@ use native.Mathlib.Nat.{add-zero, add-suc, add_assoc}
 use native.Mathlib.Omega.{arith}
 use lib.ListN.{get_or}
 use borrow.Author.Tests.{le-leb}
-use Rattle.bits.specs.Choice.{if◌then◌else◌, ◌and◌}
+use Rattle.bits.specs.Choice.{◌and◌}
+use Rattle.std.specs.Prelude.{if◌then◌else◌}
 use Rattle.tape.specs.declared.Operation.TheVariants.{Advance}
 use Rattle.tape.specs.Records.{unused, pulse_count, decode_of}
 use Rattle.tape.specs.Answers.{answer_of}

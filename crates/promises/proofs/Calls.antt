@@ -9,7 +9,8 @@ use lib.Dec.{leb}
 use lib.ListN.{get_or, length, drop, length-append, length-drop}
 use lib.Seq.{drop_at}
 use borrow.Author.Tests.{leb-true}
-use Rattle.bits.specs.Choice.{if◌then◌else◌, ◌and◌}
+use Rattle.bits.specs.Choice.{◌and◌}
+use Rattle.std.specs.Prelude.{if◌then◌else◌}
 use Rattle.board.specs.declared.Board.{Board}
 use Rattle.board.specs.Step.{step_of}
 use Rattle.board.specs.Records.{record_at, Run, after}

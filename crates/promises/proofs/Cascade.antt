@@ -2,13 +2,14 @@
 use mathlib.Core.Path.{◌≡◌, refl, sym, ap, subst, ◌∙◌}
 use mathlib.Core.Logic.{◌↔◌, ◌≢◌}
 use mathlib.Core.List.{List}
-use mathlib.Core.Bool.{Bool, true, false, not, true≢false, false≢true}
+use mathlib.Core.Bool.{Bool, true, false, not}
 use Prim.Native.Nat.{ℕ, zero, suc, ◌+◌, ◌<◌}
 use native.Mathlib.Omega.{arith}
 use lib.Bits.{bit_or}
 use lib.Dec.{T, eqb}
 use borrow.Author.Tests.{eqb-true, eq-eqb, ne_eqb}
-use Rattle.bits.specs.Choice.{if◌then◌else◌, ◌and◌, ◌or◌, every}
+use Rattle.bits.specs.Choice.{◌and◌, ◌or◌, every}
+use Rattle.std.specs.Prelude.{if◌then◌else◌}
 use Rattle.bits.specs.Bits.{bit_of, with_of, without_of, masked_of}
 use Rattle.bits.proofs.Every.{below}
 use Rattle.tape.specs.declared.Operation.TheVariants.{Write, SlaveIntp, Acknowledge}
@@ -19,14 +20,13 @@ use Rattle.icu.specs.Answers.{Told}
 use Rattle.icu.specs.Words as IcuWords
 use Rattle.icu.specs.Words.{ready, lev}
 use Rattle.icu.specs.Requests.{irr_of, asked_of, int_of, rises, falls, lines_of}
-use Rattle.icu.specs.Service as IcuService
 use Rattle.icu.specs.Service.{takes, served_of, naming}
 use Rattle.cascade.specs.Cascade.{slave_iw3, joined_of, answerer_of, answered, together, passed_on}
 use Rattle.timer.specs.declared.Timer.{Timer}
 use Rattle.timer.specs.Timer.{at, pulses_of}
 use Rattle.board.specs.declared.Board.{Board}
 use Rattle.board.specs.declared.Stepped.{Stepped}
-use Rattle.board.specs.Operations.{Outcome, a0, done, refused, told_with, icu_told, slave_lines, slave_written, slave_tells, slave_gives, acknowledge_of, write_of}
+use Rattle.board.specs.Operations.{Outcome, a0, done, refused, told_with, slave_lines, slave_written, slave_tells, slave_gives, acknowledge_of, write_of}
 use Rattle.board.specs.Wiring.{icu_is, slave_is, lines_by, joined, lines, lines_at, int, followed}
 use Rattle.board.specs.Advance.{tick_of, advanced_of, advance_of}
 use Rattle.board.specs.Step.{execute_of, memory_after, blocked, outcome_of, memory_of, answered_of, step_of, step_memory}

@@ -7,7 +7,8 @@ use Prim.Native.Nat.{ℕ, ◌*◌}
 use lib.Dec.{leb}
 use lib.ListN.{get_or, length}
 use borrow.Author.Tests.{eq-eqb, ne_eqb, not-true}
-use Rattle.bits.specs.Choice.{if◌then◌else◌, ◌and◌}
+use Rattle.bits.specs.Choice.{◌and◌}
+use Rattle.std.specs.Prelude.{if◌then◌else◌}
 use Rattle.tape.specs.Answers.{answer_of}
 use Rattle.board.specs.declared.Board.{Board}
 use Rattle.board.specs.Wiring.{levels_of}

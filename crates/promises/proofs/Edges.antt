@@ -8,7 +8,8 @@ use native.Mathlib.Omega.{arith}
 use lib.Dec.{eqb, ltb}
 use lib.ListN.{get_or}
 use borrow.Author.Tests.{eqb-true, eqb-false, eq-eqb, ne_eqb, leb-true, ltb-true, ltb-false}
-use Rattle.bits.specs.Choice.{if◌then◌else◌, ◌and◌, ◌or◌}
+use Rattle.bits.specs.Choice.{◌and◌, ◌or◌}
+use Rattle.std.specs.Prelude.{if◌then◌else◌}
 use Rattle.bits.specs.Bits.{bit_of}
 use Rattle.tape.specs.declared.Operation.TheVariants.{Reset, Write, Read, Intp, Gates, Requests, SlaveIntp, Acknowledge, Advance, Cycle}
 use Rattle.tape.specs.declared.Decoded.{Decoded}
@@ -22,14 +23,13 @@ use Rattle.icu.specs.Requests.{irr_of, int_of, lines_of}
 use Rattle.icu.specs.Service as IcuService
 use Rattle.icu.specs.Service.{takes, served_of}
 use Rattle.cascade.specs.Cascade.{master_iw3, slave_iw3, joined_of, answered as has-answer, passed_on}
-use Rattle.timer.specs.declared.Timer.{Timer}
 use Rattle.timer.specs.Run.{ran_of}
 use Rattle.timer.specs.Timer.{at, resets_of, writes_of, reads_of, gates_of}
 use Rattle.dma.specs.Registers as DmaRegisters
 use Rattle.board.specs.declared.Board.{Board}
 use Rattle.board.specs.declared.Run.{Run}
-use Rattle.board.specs.Operations.{Outcome, a0, done, refused, told_with, icu_told, acknowledged, slave_lines, slave_written, slave_shown, slave_tells, slave_gives, acknowledge_of, timer_written, timer_shown, dma_written, dma_shown, write_of, read_of, cycle_of}
-use Rattle.board.specs.Wiring.{icu_is, intp_is, slave_is, timer_is, lines_by, lines_at, joined, lines, int, followed}
+use Rattle.board.specs.Operations.{Outcome, a0, done, refused, told_with, icu_told, slave_lines, slave_written, slave_shown, slave_tells, slave_gives, acknowledge_of, timer_written, timer_shown, dma_written, dma_shown, write_of, read_of, cycle_of}
+use Rattle.board.specs.Wiring.{icu_is, intp_is, slave_is, timer_is, lines_by, joined, lines, int, followed}
 use Rattle.board.specs.Advance.{advanced_of, run, advance_of}
 use Rattle.board.specs.Step.{execute_of, blocked, outcome_of, answered_of, step_of}
 use Rattle.board.proofs.Line.{before, never_rose}
@@ -43,7 +43,7 @@ use Rattle.promises.proofs.Counters.{reads_out}
 use Rattle.promises.proofs.Plain.{no_bit}
 use Rattle.promises.proofs.Sizes.{lines_by_small, joined_small, lines_small}
 use Rattle.promises.proofs.Advances.{alone, few_rises, reported}
-use Rattle.promises.proofs.Requested.{Fit, line_by, line_bit, joined_line, irr_bit, edged, same_edge, stage_stays, trigger_stays, edge_bit, unready_lines, level_lines}
+use Rattle.promises.proofs.Requested.{Fit, line_by, line_bit, joined_line, edged, same_edge, stage_stays, trigger_stays, edge_bit, unready_lines, level_lines}
 use Rattle.promises.proofs.SetUps.{both_answer, passed_by}
 use Rattle.promises.proofs.Taken.{named_icu, named_status, highest_asked, answers_ready, served_edges}
 

@@ -26,7 +26,7 @@ use Rattle.timer.specs.Pulse.{pulse_of, gate_of}
 use Rattle.timer.specs.Timer.{blank, at, counter_is, wrote_by, got_by, controls_of, writes_of, reads_of, gates_of}
 use Rattle.board.specs.declared.Board.{Board}
 use Rattle.board.specs.declared.Stepped.{Stepped}
-use Rattle.board.specs.Operations.{telling, timer_shown, write_of, read_of}
+use Rattle.board.specs.Operations.{telling, timer_shown, read_of}
 use Rattle.board.specs.Wiring.{timer_is, joined}
 use Rattle.board.specs.Advance.{tick_of, advanced_of}
 use Rattle.board.specs.Step.{execute_of, blocked, outcome_of, answered_of, step_of}

@@ -7,7 +7,8 @@ use native.Mathlib.Nat.{add-zero}
 use native.Mathlib.Omega.{arith}
 use lib.Dec.{eqb, ltb}
 use borrow.Author.Tests.{eqb-false, lt-ltb, ltb-true}
-use Rattle.bits.specs.Choice.{if◌then◌else◌, ◌and◌, ◌or◌, some}
+use Rattle.bits.specs.Choice.{◌and◌, ◌or◌, some}
+use Rattle.std.specs.Prelude.{if◌then◌else◌}
 use Rattle.bits.specs.Bits.{bit_of, with_of, without_of}
 use Rattle.icu.specs.declared.Icu.{Icu}
 use Rattle.icu.specs.Answers.{Told}

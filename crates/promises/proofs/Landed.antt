@@ -1,5 +1,5 @@
 -- A unit in memory: which bytes it changes, and to what.
-use mathlib.Core.Path.{◌≡◌, refl, sym, ap, ◌∙◌, subst}
+use mathlib.Core.Path.{◌≡◌, refl, ap, ◌∙◌}
 use mathlib.Core.Logic.{◌≢◌}
 use mathlib.Core.List.{List}
 use mathlib.Core.Bool.{Bool, true, false}
@@ -8,8 +8,9 @@ use native.Mathlib.Omega.{arith}
 use lib.Dec.{eqb, ltb}
 use lib.ListN.{get_or, set, length, length-set}
 use lib.Seq.{get_or-set_same, get_or-set_other}
-use borrow.Author.Tests.{eqb-true, eqb-false, eq-eqb, ne_eqb, lt-ltb}
-use Rattle.bits.specs.Choice.{if◌then◌else◌, ◌and◌}
+use borrow.Author.Tests.{eqb-true, eqb-false, lt-ltb}
+use Rattle.bits.specs.Choice.{◌and◌}
+use Rattle.std.specs.Prelude.{if◌then◌else◌}
 use Rattle.dma.specs.declared.Channel.{Channel}
 use Rattle.dma.specs.Fields.{word}
 use Rattle.dma.specs.Cycle.{writes, size_of, start_of, width, poke_of, memory_of}

@@ -9,7 +9,8 @@ use lib.Dec.{eqb, ltb}
 use lib.ListN.{length, length-set, get_or-eq_default}
 use lib.Seq.{get_or-set_same}
 use borrow.Author.Tests.{eq-eqb, ne_eqb, le-leb, le-ltb, lt-ltb, ltb-true, ltb-false}
-use Rattle.bits.specs.Choice.{if◌then◌else◌, ◌and◌, ◌or◌, every}
+use Rattle.bits.specs.Choice.{◌and◌, ◌or◌, every}
+use Rattle.std.specs.Prelude.{if◌then◌else◌}
 use Rattle.bits.specs.Bits.{bit_of, less}
 use Rattle.bits.proofs.Every.{agree, alike}
 use Rattle.tape.specs.Records.{unused, writable, decode_of}

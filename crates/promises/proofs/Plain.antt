@@ -8,7 +8,8 @@ use native.Mathlib.Omega.{arith}
 use lib.Dec.{eqb}
 use lib.ListN.{get_or}
 use borrow.Author.Tests.{eq-eqb, ne_eqb, lt-ltb}
-use Rattle.bits.specs.Choice.{if◌then◌else◌, ◌and◌, every}
+use Rattle.bits.specs.Choice.{◌and◌, every}
+use Rattle.std.specs.Prelude.{if◌then◌else◌}
 use Rattle.bits.specs.Bits.{bit_of, without_of}
 use Rattle.bits.proofs.Every.{alike}
 use Rattle.tape.specs.declared.Operation.TheVariants.{Write, Read}

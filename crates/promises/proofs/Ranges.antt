@@ -8,7 +8,7 @@ use native.Mathlib.Omega.{arith}
 use lib.Dec.{ltb}
 use lib.ListN.{get_or, get_or-eq_default}
 use borrow.Author.Tests.{leb-false, ltb-true, ltb-false, lt-ltb}
-use Rattle.bits.specs.Choice.{if◌then◌else◌, ◌and◌, ◌or◌}
+use Rattle.bits.specs.Choice.{◌and◌, ◌or◌}
 use Rattle.bits.specs.Bits.{less}
 use Rattle.dma.specs.declared.Span.{Span}
 use Rattle.dma.specs.declared.Channel.{Channel}

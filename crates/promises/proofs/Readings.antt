@@ -9,7 +9,8 @@ use lib.Dec.{eqb, ltb, leb}
 use lib.ListN.{get_or}
 use lib.Bits.{and_mod, and_le_r}
 use borrow.Author.Tests.{eqb-true, eqb-false, ltb-true, ltb-false, leb-true, leb-false, le-ltb, le-leb, ne_eqb}
-use Rattle.bits.specs.Choice.{if◌then◌else◌, ◌and◌, ◌or◌, every}
+use Rattle.bits.specs.Choice.{◌and◌, ◌or◌, every}
+use Rattle.std.specs.Prelude.{if◌then◌else◌}
 use Rattle.bits.specs.Bits.{bit_of, masked_of}
 use Rattle.bits.proofs.Every.{alike}
 use Rattle.tape.specs.Records.{unused, icu_port, timer_port, dma_port, slave_port, writable, readable, pulse_count}

@@ -9,7 +9,8 @@ use lib.Dec.{eqb}
 use lib.ListN.{get_or}
 use lib.Bits.{bit_and, bit_or, and_le_l, and_shr, and_mod, or_shr, or_mod}
 use borrow.Author.Tests.{eqb-true, ltb-true, lt-ltb, eq-eqb, ne_eqb}
-use Rattle.bits.specs.Choice.{if◌then◌else◌, ◌and◌, ◌or◌, every, some}
+use Rattle.bits.specs.Choice.{◌and◌, ◌or◌, every, some}
+use Rattle.std.specs.Prelude.{if◌then◌else◌}
 use Rattle.bits.specs.Bits.{bit_of, with_of, masked_of}
 use Rattle.bits.proofs.Every.{below, alike, same, some_true, every_true}
 use Rattle.tape.specs.Records.{unused, lines_asked, decode_of}
@@ -23,7 +24,7 @@ use Rattle.timer.specs.declared.Timer.{Timer}
 use Rattle.timer.specs.Timer.{at}
 use Rattle.board.specs.declared.Board.{Board}
 use Rattle.board.specs.Operations.{done, refused}
-use Rattle.board.specs.Wiring.{icu_is, intp_is, lines_by, lines_at, joined, lines, int, followed}
+use Rattle.board.specs.Wiring.{intp_is, lines_by, lines_at, joined, lines, int, followed}
 use Rattle.board.specs.Step.{execute_of, blocked, outcome_of, answered_of, step_of}
 use Rattle.promises.specs.Records.{reading, setting}
 use Rattle.promises.specs.Words.{requested, line_high, asked_for}

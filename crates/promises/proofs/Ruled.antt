@@ -3,7 +3,8 @@ use mathlib.Core.Bool.{Bool, false, not}
 use mathlib.Core.List.{List}
 use Prim.Native.Nat.{ℕ, ◌+◌, ◌*◌, ◌%◌}
 use lib.Dec.{eqb, ltb, leb}
-use Rattle.bits.specs.Choice.{if◌then◌else◌, ◌and◌, ◌or◌}
+use Rattle.bits.specs.Choice.{◌and◌, ◌or◌}
+use Rattle.std.specs.Prelude.{if◌then◌else◌}
 use Rattle.bits.specs.Bits.{bit_of, masked_of}
 use Rattle.tape.specs.Records.{byte, unused, icu_port, timer_port, dma_port, slave_port, writable, readable, pulse_count}
 use Rattle.icu.specs.declared.Icu.{Icu}

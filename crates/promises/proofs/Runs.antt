@@ -9,7 +9,8 @@ use lib.Dec.{eqb, ltb}
 use lib.ListN.{length, take, drop, length-append, length-drop, drop_of_length-le, get_or-eq_default}
 use lib.Seq.{drop-append-le, take-append-le, drop_at, take_all}
 use borrow.Author.Tests.{ltb-true}
-use Rattle.bits.specs.Choice.{if◌then◌else◌, ◌and◌}
+use Rattle.bits.specs.Choice.{◌and◌}
+use Rattle.std.specs.Prelude.{if◌then◌else◌}
 use Rattle.dma.specs.declared.Channel.{Channel}
 use Rattle.dma.specs.declared.Dma.{Dma}
 use Rattle.dma.specs.Fields.{none as blank, chan}

@@ -1,11 +1,11 @@
 -- The set-ups of master and slave, by the tests of the table.
-use mathlib.Core.Path.{◌≡◌, refl, sym, ap, ◌∙◌}
+use mathlib.Core.Path.{◌≡◌, refl}
 use mathlib.Core.Bool.{Bool, true, false, not, true≢false, false≢true}
 use Prim.Native.Nat.{ℕ}
 use lib.Dec.{eqb}
 use borrow.Author.Tests.{eqb-true}
-use Rattle.bits.specs.Choice.{if◌then◌else◌, ◌and◌, ◌or◌}
-use Rattle.bits.specs.Bits.{bit_of}
+use Rattle.bits.specs.Choice.{◌and◌, ◌or◌}
+use Rattle.std.specs.Prelude.{if◌then◌else◌}
 use Rattle.icu.specs.declared.Icu.{Icu}
 use Rattle.icu.specs.Words.{ready, sngl}
 use Rattle.icu.specs.Requests.{int_of}

@@ -40,7 +40,7 @@ use Rattle.dma.specs.Registers as Registers
 use Rattle.dma.specs.Cycle as DmaCycle
 use Rattle.board.specs.declared.Board.{Board}
 use Rattle.board.specs.Operations.{Outcome, a0, slave_written, slave_shown, slave_gives, acknowledge_of, timer_written, timer_shown, dma_written, dma_shown, write_of, read_of, cycle_of}
-use Rattle.board.specs.Wiring.{fresh_of, icu_is, intp_is, slave_is, timer_is, dma_is, lines_by, joined, lines, lines_at, followed}
+use Rattle.board.specs.Wiring.{fresh_of, icu_is, slave_is, timer_is, dma_is, lines_by, joined, lines, lines_at, followed}
 use Rattle.board.specs.Advance.{tick_of, advanced_of, advance_of}
 use Rattle.board.specs.Step.{execute_of, blocked, outcome_of, answered_of, step_of}
 use Rattle.board.specs.Records.{record_at, after}

@@ -7,7 +7,8 @@ use native.Mathlib.Omega.{arith}
 use lib.Dec.{eqb, ltb, leb}
 use lib.ListN.{get_or}
 use borrow.Author.Tests.{eqb-true, eqb-false, ltb-true, leb-true, leb-false, lt-ltb, le-ltb, le-leb, lt-leb, eq-eqb, ne_eqb}
-use Rattle.bits.specs.Choice.{if◌then◌else◌, ◌and◌, ◌or◌}
+use Rattle.bits.specs.Choice.{◌and◌, ◌or◌}
+use Rattle.std.specs.Prelude.{if◌then◌else◌}
 use Rattle.bits.specs.Bits.{bit_of, masked_of}
 use Rattle.tape.specs.declared.Operation.{Operation}
 use Rattle.tape.specs.declared.Operation.TheVariants.{Reset, Write, Read, Intp, Gates, Requests, SlaveIntp, Acknowledge, Advance, Cycle}
@@ -34,7 +35,6 @@ use Rattle.timer.specs.Timer.{at, writes_of, reads_of, controls_of, wrote_by, go
 use Rattle.dma.specs.declared.Dma.{Dma}
 use Rattle.dma.specs.declared.Written.{Written as DmaWritten}
 use Rattle.dma.specs.declared.Got.{Got as DmaGot}
-use Rattle.dma.specs.Fields.{requests_are}
 use Rattle.dma.specs.Registers as DmaRegisters
 use Rattle.dma.specs.Registers.{any_words, refuses_mode}
 use Rattle.board.specs.declared.Board.{Board}

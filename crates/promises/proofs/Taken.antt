@@ -9,7 +9,8 @@ use native.Mathlib.Nat.{mod-eq_of_lt}
 use lib.Dec.{eqb, ltb}
 use lib.ListN.{get_or}
 use borrow.Author.Tests.{ltb-true, ltb-false, eq-eqb, ne_eqb}
-use Rattle.bits.specs.Choice.{if◌then◌else◌, ◌and◌, ◌or◌}
+use Rattle.bits.specs.Choice.{◌and◌, ◌or◌}
+use Rattle.std.specs.Prelude.{if◌then◌else◌}
 use Rattle.bits.specs.Bits.{bit_of, with_of, without_of}
 use Rattle.tape.specs.Records.{unused, decode_of}
 use Rattle.tape.specs.Answers.{twelve, answer_of}

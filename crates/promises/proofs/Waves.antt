@@ -7,10 +7,10 @@ use native.Mathlib.Nat.{suc-mod, mod-lt, mod-eq_of_lt, mod_self, div-add-mod', m
 use native.Mathlib.Omega.{arith}
 use lib.Dec.{eqb, ltb, leb}
 use borrow.Author.Tests.{eqb-true, eqb-false, leb-true, leb-false, ltb-true, ltb-false, eq-eqb, ne_eqb, lt-ltb, le-ltb, le-leb, lt-leb}
-use Rattle.bits.specs.Choice.{if◌then◌else◌, ◌and◌, ◌or◌}
+use Rattle.bits.specs.Choice.{◌and◌, ◌or◌}
+use Rattle.std.specs.Prelude.{if◌then◌else◌}
 use Rattle.bits.specs.Bits.{less}
 use Rattle.timer.specs.declared.Counter.{Counter}
-use Rattle.timer.specs.declared.Ran.{Ran}
 use Rattle.timer.specs.Fields.{value_is, out_is}
 use Rattle.timer.specs.Shared.{counted}
 use Rattle.timer.specs.Mode0.{pulse0}

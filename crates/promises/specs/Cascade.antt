@@ -2,10 +2,9 @@
 --
 -- Words.antt has line_high (a line of the master), asked_for and Highest; Table.antt has extended (a chip is ready, with IW1's D1=0) and unanswered (the set-ups in which an acknowledge is out of turn);
 -- Meant.antt has Names (an acknowledge is answered as a level of a chip) and Outranking (a level that outranks all that a chip has in service); OneChip.antt has the board with one chip.
-use Rattle.std.specs.Prelude.{◌≡◌, ◌↔◌, ◌≢◌, List, Bool, true, false, not, ℕ, ◌+◌, ◌<◌, eqb, get_or}
-use Rattle.bits.specs.Choice.{if◌then◌else◌, ◌and◌, ◌or◌}
+use Rattle.std.specs.Prelude.{◌≡◌, ◌↔◌, ◌≢◌, List, Bool, true, false, not, ℕ, ◌+◌, ◌<◌, eqb, get_or, if◌then◌else◌}
+use Rattle.bits.specs.Choice.{◌and◌, ◌or◌}
 use Rattle.bits.specs.Bits.{bit_of}
-use Rattle.icu.specs.declared.Icu.{Icu}
 use Rattle.icu.specs.Fields.{edges_is}
 use Rattle.icu.specs.Words.{reset_of}
 use Rattle.icu.specs.Requests.{int_of}

@@ -1,7 +1,7 @@
 -- What some words mean, held against second readings: the places, ranges and last answers of demand 3; INT, the level that an acknowledge
 -- takes, and its answer with INT low; the channel that is granted; the width of the bus and of a channel's units; a reset.
-use Rattle.std.specs.Prelude.{◌≡◌, List, [], ◌∷◌, ◌++◌, Bool, true, false, not, ℕ, suc, ◌+◌, ◌*◌, ◌/◌, ◌%◌, ◌≤◌, ◌<◌, ◌↔◌, ◌⊎◌, ◌≢◌, eqb, get_or, set, replicate}
-use Rattle.bits.specs.Choice.{if◌then◌else◌, ◌and◌, ◌or◌}
+use Rattle.std.specs.Prelude.{◌≡◌, List, [], ◌∷◌, ◌++◌, Bool, true, false, not, ℕ, suc, ◌+◌, ◌*◌, ◌/◌, ◌%◌, ◌≤◌, ◌<◌, ◌↔◌, ◌⊎◌, ◌≢◌, eqb, get_or, set, replicate, if◌then◌else◌}
+use Rattle.bits.specs.Choice.{◌and◌, ◌or◌}
 use Rattle.bits.specs.Bits.{bit_of}
 use Rattle.dma.specs.declared.Span.{Span}
 use Rattle.dma.specs.Cycle.{stepped}

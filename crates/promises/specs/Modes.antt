@@ -16,7 +16,7 @@ rises_in n a =
     get_or a (4 + 4 * n) 0 + get_or a (5 + 4 * n) 0 * 256 + get_or a (6 + 4 * n) 0 * 65536 + get_or a (7 + 4 * n) 0 * 16777216
 
 pub record Modes : Type 0 where
-  -- A pulse changes no other counter: an advance of k pulses leaves counter n as k pulses of it alone leave it (`ranOf`), whatever the other two are
+  -- A pulse changes no other counter: an advance of k pulses leaves counter n as k pulses of it alone leave it (`ran_of`), whatever the other two are
   -- and do, and the rises that it reports for counter n are those of counter n alone. So boards with the same counter n have the same one afterwards.
   -- Not so: a board on which OUT of one counter clocks the next; one that stops all three while one GATE is low.
   pub no_other_counter : (b : Board) (m : List ℕ) (n k : ℕ) → n < 3

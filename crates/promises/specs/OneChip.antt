@@ -1,8 +1,8 @@
 -- The board with one interrupt chip, as it is without a slave.
 -- It has the same timer, DMA chip and interrupt chip, by the same rules, but for the words that set the interrupt chip up, which are written out here; ports 30H-31H and group 3 are not there, and an
 -- IW1 with D1=0 is not built. The statements of Cascade.antt hold the board with two chips against it.
-use Rattle.std.specs.Prelude.{ℕ, zero, suc, ◌/◌, Bool, true, false, not, List, [], ◌∷◌, ◌++◌, eqb}
-use Rattle.bits.specs.Choice.{if◌then◌else◌, ◌and◌, ◌or◌}
+use Rattle.std.specs.Prelude.{ℕ, zero, suc, ◌/◌, Bool, not, List, [], ◌++◌, eqb, if◌then◌else◌}
+use Rattle.bits.specs.Choice.{◌and◌, ◌or◌}
 use Rattle.bits.specs.Bits.{bit_of}
 use Rattle.tape.specs.declared.Operation.{Operation}
 use Rattle.tape.specs.declared.Operation.TheVariants.{Reset, Write, Read, Intp, Gates, Requests, SlaveIntp, Acknowledge, Advance, Cycle}

@@ -2,8 +2,8 @@
 --
 -- Words.antt has the words: reports_unit, channel_in, end_in, address_in, data_in, upper_in and fell_off_in (what an answer reports, by its bytes), start_of and moved_at (a unit's places), writes, reads,
 -- verifies, auto and width (what a channel is set to do), onward (where it stands a unit on). Demand1.antt has whole_records and after_first (the records of a call).
-use Rattle.std.specs.Prelude.{◌≡◌, List, true, false, ◌↔◌, ◌≢◌, ℕ, suc, ◌≤◌, ◌<◌, eqb, get_or, length}
-use Rattle.bits.specs.Choice.{if◌then◌else◌, ◌and◌, ◌or◌}
+use Rattle.std.specs.Prelude.{◌≡◌, List, true, false, ◌↔◌, ◌≢◌, ℕ, suc, ◌≤◌, ◌<◌, eqb, get_or, length, if◌then◌else◌}
+use Rattle.bits.specs.Choice.{◌and◌, ◌or◌}
 use Rattle.dma.specs.declared.Dma.{Dma}
 use Rattle.dma.specs.Fields.{chan, served}
 use Rattle.board.specs.declared.Board.{Board}

@@ -1,8 +1,8 @@
 -- The table of the status numbers, read again: what each row says of a record r that comes to a board b, in the numbers and bits of the
 -- document, and in none of the words of the rules. Status 5 has no row: it is never given. Numbers are decimal here; 10H is 16, 20H is 32,
 -- 30H is 48, 80H is 128.
-use Rattle.std.specs.Prelude.{Bool, false, not, List, [], ◌∷◌, ℕ, ◌+◌, ◌*◌, ◌/◌, ◌%◌, eqb, ltb, leb, get_or}
-use Rattle.bits.specs.Choice.{if◌then◌else◌, ◌and◌, ◌or◌}
+use Rattle.std.specs.Prelude.{Bool, false, not, List, [], ◌∷◌, ℕ, ◌+◌, ◌*◌, ◌/◌, ◌%◌, eqb, ltb, leb, get_or, if◌then◌else◌}
+use Rattle.bits.specs.Choice.{◌and◌, ◌or◌}
 use Rattle.bits.specs.Bits.{bit_of}
 use Rattle.icu.specs.declared.Icu.{Icu}
 use Rattle.timer.specs.declared.Counter.{Counter}

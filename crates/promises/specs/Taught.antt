@@ -1,8 +1,8 @@
 -- What the class must not be taught, each ruled out on the tape.
 --
 -- Records.antt has the records: `writing p x` writes x to port p, `reading p` reads it, and `pulsing` advances by one pulse. TaughtWords.antt has the words.
-use Rattle.std.specs.Prelude.{◌≡◌, ◌≢◌, List, [], ◌∷◌, true, false, not, ℕ, suc, ◌+◌, ◌*◌, ◌/◌, ◌%◌, ◌≤◌, ◌<◌, eqb, get_or, length}
-use Rattle.bits.specs.Choice.{if◌then◌else◌, ◌and◌}
+use Rattle.std.specs.Prelude.{◌≡◌, ◌≢◌, List, [], ◌∷◌, true, false, not, ℕ, suc, ◌+◌, ◌*◌, ◌/◌, ◌%◌, ◌≤◌, ◌<◌, eqb, get_or, length, if◌then◌else◌}
+use Rattle.bits.specs.Choice.{◌and◌}
 use Rattle.bits.specs.Bits.{bit_of, without_of}
 use Rattle.icu.specs.Fields.{isr_is}
 use Rattle.icu.specs.Words.{ready}

@@ -1,6 +1,6 @@
 -- OUT of a counter that is left alone, with GATE high, from the pulse that loads a count on: one law over all six modes.
-use Rattle.std.specs.Prelude.{◌≡◌, List, Bool, true, false, not, ℕ, ◌+◌, ◌-◌, ◌/◌, ◌%◌, ◌≤◌, ◌<◌, eqb, ltb, leb}
-use Rattle.bits.specs.Choice.{if◌then◌else◌, ◌or◌}
+use Rattle.std.specs.Prelude.{◌≡◌, List, Bool, true, false, not, ℕ, ◌+◌, ◌-◌, ◌/◌, ◌%◌, ◌≤◌, ◌<◌, eqb, ltb, leb, if◌then◌else◌}
+use Rattle.bits.specs.Choice.{◌or◌}
 use Rattle.timer.specs.declared.Counter.{Counter}
 use Rattle.timer.specs.Modes.{mode_of}
 use Rattle.timer.specs.Ports.{mode_set, completed, size_of}

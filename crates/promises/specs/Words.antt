@@ -1,8 +1,8 @@
 -- The words of the statements: what an answer reports, where a channel moves its units, which bytes are in its range, what disturbs
 -- the DMA chip, which of some levels or channels is the highest-ranked, and what the interrupt chip's lines, requests and levels in service are. What a mode byte says and where a
 -- unit starts is said here again, and not taken from the chip's own definitions: a mistake in one of those shall not be in what is promised, too.
-use Rattle.std.specs.Prelude.{◌≡◌, List, [], ◌∷◌, ◌++◌, Bool, true, false, not, ◌≢◌, ℕ, zero, suc, ◌+◌, ◌*◌, ◌-◌, ◌/◌, ◌%◌, ◌≤◌, ◌<◌, eqb, ltb, leb, get_or, take, drop, length}
-use Rattle.bits.specs.Choice.{if◌then◌else◌, ◌and◌, ◌or◌}
+use Rattle.std.specs.Prelude.{◌≡◌, List, [], ◌∷◌, ◌++◌, Bool, true, false, not, ◌≢◌, ℕ, zero, suc, ◌+◌, ◌*◌, ◌-◌, ◌/◌, ◌%◌, ◌≤◌, ◌<◌, eqb, ltb, leb, get_or, take, drop, length, if◌then◌else◌}
+use Rattle.bits.specs.Choice.{◌and◌, ◌or◌}
 use Rattle.bits.specs.Bits.{bit_of}
 use Rattle.timer.specs.Timer.{at}
 use Rattle.dma.specs.declared.Span.{Span}

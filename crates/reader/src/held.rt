@@ -90,6 +90,9 @@ fn make_file(rt: &HostRuntime) -> Held {
     }
 }
 
+// What the system says of a name that is taken.
+const TAKEN: i32 = 17;
+
 // Names are tried until one is new.
 fn open_unnamed(rt: &HostRuntime) -> Result<File, Error> {
     for k in 0..1000000 {
@@ -103,7 +106,7 @@ fn open_unnamed(rt: &HostRuntime) -> Result<File, Error> {
             }
         }
     }
-    Err(Error::from(ErrorKind::AlreadyExists))
+    Err(Error::from_raw_os_error(TAKEN))
 }
 
 fn open_new(rt: &HostRuntime, name: &[u8]) -> Result<File, Error> {
@@ -136,6 +139,7 @@ fn name_of(k: u32) -> [u8; 18] {
 // Where standard input, output or error is closed, the file takes its place, and what is written there would go into it.
 fn keep_apart(file: File) -> Held {
     if file.as_raw_fd() <= report::STDERR {
+        close(Held::File(file));
         sentences::message(0x25, 0, 0).put(b'\n').complain();
         return Held::Lost;
     }

@@ -7,11 +7,11 @@ use native.Mathlib.Omega.{arith}
 use borrow.Author.Tests.{eq-eqb, ne_eqb, eqb-true, eqb-false}
 use lib.Dec.{eqb}
 use lib.ListN.{set}
-use Rattle.bits.specs.Choice.{if◌then◌else◌, ◌and◌}
+use Rattle.bits.specs.Choice.{◌and◌}
+use Rattle.std.specs.Prelude.{if◌then◌else◌}
 use Rattle.tape.specs.Answers.{answer_of, little_of, twelve}
 use Rattle.tape.specs.declared.Operation.{Operation}
 use Rattle.tape.specs.declared.Operation.TheVariants.{Reset, Write, Read, Intp, Gates, Requests, SlaveIntp, Acknowledge, Advance, Cycle}
-use Rattle.tape.specs.declared.Decoded.{Decoded}
 use Rattle.tape.specs.declared.Decoded.TheVariants.{Asked, Malformed}
 use Rattle.tape.specs.Records.{byte, decode_of, uses_bus}
 use Rattle.icu.specs.declared.Icu.{Icu}
@@ -46,7 +46,7 @@ use Rattle.board.specs.declared.Turn.{Turn}
 use Rattle.board.specs.declared.Wired.{Wired}
 use Rattle.board.specs.declared.Run.{Run}
 use Rattle.board.specs.Wiring.{icu_is, intp_is, slave_is, timer_is, dma_is, joined, lines, lines_at, levels_of, levels_at, reset_of, followed, wired_to}
-use Rattle.board.specs.Operations.{Outcome, done, telling, refused, told_with, icu_told, turn_of, a0, icu_written, icu_shown, slave_lines, slave_written, slave_shown, acknowledged, slave_tells, slave_gives, acknowledge_of, timer_written, timer_shown, dma_written, dma_shown, write_of, read_of, flag_of, payload_of, cycle_of, cycle_memory}
+use Rattle.board.specs.Operations.{Outcome, done, telling, refused, icu_told, turn_of, a0, icu_written, icu_shown, slave_written, slave_shown, acknowledged, slave_gives, acknowledge_of, timer_written, timer_shown, dma_written, dma_shown, write_of, read_of, flag_of, payload_of, cycle_of, cycle_memory}
 use Rattle.board.specs.Advance.{advanced_of, rises_payload, advance_of}
 use Rattle.records.proofs.Runs.{Turned}
 use Rattle.board.specs.Step.{execute_of, memory_after, blocked, outcome_of, memory_of, answered_of, step_of, step_memory}

@@ -11,7 +11,7 @@ use Rattle.board.specs.declared.Board.{Board}
 use Rattle.board.specs.declared.Stepped.{Stepped}
 use Rattle.board.specs.Wiring.{joined, levels_of}
 use Rattle.board.specs.Step.{step_of, step_memory, answered_of}
-use Rattle.board.specs.Records.{Run, after, next, record_at}
+use Rattle.board.specs.Records.{after, next, record_at}
 use Rattle.records.proofs.Lists.{put_next}
 
 -- every answer is sixteen bytes

@@ -1,9 +1,8 @@
 // The loop over the records of a tape.
 #![tactic(auto)]
 
-ghost use Rattle.std.specs.Prelude.{◌≡◌, ◌++◌, ◌∷◌, [], ◌+◌, ◌*◌, ◌≤◌, ◌<◌, length, take, drop, ltb};
+ghost use Rattle.std.specs.Prelude.{◌≡◌, ◌++◌, ◌∷◌, [], ◌+◌, ◌*◌, ◌≤◌, ◌<◌, length, take, drop, ltb, if◌then◌else◌};
 ghost use Rattle.std.proofs.Math.Seq.{paste};
-ghost use Rattle.bits.specs.Choice.{if◌then◌else◌};
 ghost use Rattle.tape.specs.Records.{held_of};
 ghost use Rattle.tape.specs.Answers.{answer_of};
 ghost use Rattle.board.specs.Records.{record_at, eight_from, digits_of, fitting, run_of};

@@ -8,7 +8,7 @@ use borrow.Author.Tests.{ltb-true, ltb-false}
 use lib.Dec.{ltb}
 use lib.ListN.{length, take, get_or, length-append, get_or-append}
 use lib.Seq.{length-take-le, take_all, get_or-take, get_or-append-add}
-use Rattle.bits.specs.Choice.{if◌then◌else◌}
+use Rattle.std.specs.Prelude.{if◌then◌else◌}
 use Rattle.tape.specs.Records.{held_of}
 
 -- seven bytes at the most

@@ -3,7 +3,8 @@ use Prim.Native.Nat.{ℕ, ◌<◌}
 use mathlib.Core.Bool.{Bool, true, false}
 use mathlib.Core.Path.{◌≡◌}
 use lib.Dec.{eqb, ltb, leb}
-use Rattle.bits.specs.Choice.{if◌then◌else◌, every}
+use Rattle.bits.specs.Choice.{every}
+use Rattle.std.specs.Prelude.{if◌then◌else◌}
 use Rattle.bits.proofs.Every.{alike}
 use Rattle.tape.specs.Records.{writable, readable}
 

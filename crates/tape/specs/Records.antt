@@ -1,6 +1,6 @@
 -- The records of a tape: eight bytes, of which byte 0 is the operation.
-use Rattle.std.specs.Prelude.{ℕ, zero, suc, ◌+◌, ◌*◌, ◌%◌, Bool, true, false, not, List, eqb, ltb, leb, get_or}
-use Rattle.bits.specs.Choice.{if◌then◌else◌, ◌and◌, ◌or◌}
+use Rattle.std.specs.Prelude.{ℕ, zero, suc, ◌+◌, ◌*◌, ◌%◌, Bool, true, false, not, List, eqb, ltb, leb, get_or, if◌then◌else◌}
+use Rattle.bits.specs.Choice.{◌and◌, ◌or◌}
 use Rattle.tape.specs.declared.Operation.{Operation}
 use Rattle.tape.specs.declared.Operation.TheVariants.{Reset, Write, Read, Intp, Gates, Requests, SlaveIntp, Acknowledge, Advance, Cycle}
 use Rattle.tape.specs.declared.Decoded.{Decoded}

@@ -4,7 +4,7 @@ use mathlib.Core.List.{List}
 use Prim.Native.Nat.{ℕ}
 use lib.Seq.{set-get_or}
 use lib.Dec.{eqb}
-use Rattle.bits.specs.Choice.{if◌then◌else◌}
+use Rattle.std.specs.Prelude.{if◌then◌else◌}
 use Rattle.timer.specs.declared.Counter.{Counter}
 use Rattle.timer.specs.declared.Timer.{Timer}
 use Rattle.timer.specs.declared.Wrote.{Wrote}
@@ -46,7 +46,7 @@ unfolding told_shown
 shown_again c (Byte b d) = refl
 shown_again c Modeless = refl
 
--- So a contract that speaks through `toldWrote` or `toldShown` allows one result only.
+-- So a contract that speaks through `told_wrote` or `told_shown` allows one result only.
 pub one_wrote : (c : Counter) (r s : Wrote) → told_wrote c r ≡ told_wrote c s → r ≡ s
 one_wrote c r s e = sym (wrote_again c r) ∙ ap wrote_as e ∙ wrote_again c s
 

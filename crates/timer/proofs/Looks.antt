@@ -7,7 +7,7 @@ use borrow.Author.Tests.{ne_eqb}
 use lib.Dec.{eqb}
 use lib.ListN.{get_or, set, get_or-map}
 use lib.Seq.{set-get_or, map-set_same}
-use Rattle.bits.specs.Choice.{if◌then◌else◌}
+use Rattle.std.specs.Prelude.{if◌then◌else◌}
 use Rattle.timer.specs.Fields.{latched_is, second_is}
 use Rattle.timer.specs.Modes.{moded}
 use Rattle.timer.specs.Ports.{Answer, refused, read_as, told_shown, held, read_of, seen_as, seen_of}

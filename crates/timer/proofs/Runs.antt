@@ -6,7 +6,8 @@ use native.Mathlib.Nat.{zero-add, add-zero, add_assoc}
 use native.Mathlib.Numerals.{add-one}
 use native.Mathlib.Omega.{arith}
 use lib.Dec.{eqb}
-use Rattle.bits.specs.Choice.{if◌then◌else◌, ◌and◌, ◌or◌}
+use Rattle.bits.specs.Choice.{◌and◌, ◌or◌}
+use Rattle.std.specs.Prelude.{if◌then◌else◌}
 use Rattle.bits.specs.Bits.{less}
 use Rattle.timer.specs.Fields.{value_is, out_is, odd_is}
 use Rattle.timer.specs.Shared.{Mode, counted}
@@ -332,7 +333,7 @@ goes c s n =
     (λ m5. rests c n (rw (f, m0, m1, m2, m3, m4, m5)))))))))
     (λ f. rests c n (rw f))
 
--- What n steady pulses come to, read off `steadyOf` once for each way that it can go. A proof that has the tests cites these, and need not open it.
+-- What n steady pulses come to, read off `steady_of` once for each way that it can go. A proof that has the tests cites these, and need not open it.
 module _ (c : Counter) (n : ℕ) where
   -- Without a complete count a counter stays as it is.
   pub steady_unset : c.full ≡ false → steady_of c n ≡ rested c

@@ -1,6 +1,5 @@
 -- Mode 0: interrupt on end of count (Table 5).
-use Rattle.std.specs.Prelude.{true, false}
-use Rattle.bits.specs.Choice.{if◌then◌else◌}
+use Rattle.std.specs.Prelude.{true, false, if◌then◌else◌}
 use Rattle.bits.specs.Bits.{less}
 use Rattle.timer.specs.Shared.{Mode, counted, by_count}
 use Rattle.timer.specs.declared.Counter.{Counter}

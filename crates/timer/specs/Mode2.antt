@@ -1,6 +1,5 @@
 -- Mode 2: rate generator (Table 7).
-use Rattle.std.specs.Prelude.{true, false, eqb}
-use Rattle.bits.specs.Choice.{if◌then◌else◌}
+use Rattle.std.specs.Prelude.{true, false, eqb, if◌then◌else◌}
 use Rattle.bits.specs.Bits.{less}
 use Rattle.timer.specs.Fields.{out_is}
 use Rattle.timer.specs.Shared.{Mode, loaded, counted, cyclic}

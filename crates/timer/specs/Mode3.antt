@@ -1,6 +1,6 @@
 -- Mode 3: square wave generator (Table 8).
-use Rattle.std.specs.Prelude.{Bool, true, false, not, ℕ, ◌-◌, ◌%◌, eqb}
-use Rattle.bits.specs.Choice.{if◌then◌else◌, ◌and◌}
+use Rattle.std.specs.Prelude.{Bool, true, false, not, ℕ, ◌-◌, ◌%◌, eqb, if◌then◌else◌}
+use Rattle.bits.specs.Choice.{◌and◌}
 use Rattle.bits.specs.Bits.{less}
 use Rattle.timer.specs.Fields.{value_is, out_is, odd_is}
 use Rattle.timer.specs.Shared.{Mode, cyclic}

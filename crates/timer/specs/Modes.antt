@@ -1,6 +1,5 @@
 -- The six modes by their numbers.
-use Rattle.std.specs.Prelude.{ℕ, Bool, false, eqb, ltb}
-use Rattle.bits.specs.Choice.{if◌then◌else◌}
+use Rattle.std.specs.Prelude.{ℕ, Bool, false, eqb, ltb, if◌then◌else◌}
 use Rattle.timer.specs.Shared.{Mode}
 use Rattle.timer.specs.Mode0.{mode0}
 use Rattle.timer.specs.Mode1.{mode1}

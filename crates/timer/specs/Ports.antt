@@ -1,6 +1,6 @@
 -- One counter at its ports: reset, control word, mode word, count bytes, latch, reads.
-use Rattle.std.specs.Prelude.{ℕ, ◌+◌, ◌*◌, ◌%◌, ◌/◌, true, false, not, eqb, ltb}
-use Rattle.bits.specs.Choice.{if◌then◌else◌, ◌or◌}
+use Rattle.std.specs.Prelude.{ℕ, ◌+◌, ◌*◌, ◌%◌, ◌/◌, true, false, not, eqb, ltb, if◌then◌else◌}
+use Rattle.bits.specs.Choice.{◌or◌}
 use Rattle.timer.specs.Fields.{mode_is, format_is, count_is, full_is, pending_is, trigger_is, half_is, low_is, latched_is, latch_is, second_is, out_is}
 use Rattle.timer.specs.Modes.{mode_of, moded}
 use Rattle.timer.specs.declared.Counter.{Counter}

@@ -1,8 +1,7 @@
 -- One counter at its pins: a pulse of CLK, and the level of GATE.
-use Rattle.std.specs.Prelude.{Bool, true, false}
-use Rattle.bits.specs.Choice.{if◌then◌else◌, ◌and◌}
+use Rattle.std.specs.Prelude.{Bool, true, false, if◌then◌else◌}
+use Rattle.bits.specs.Choice.{◌and◌}
 use Rattle.timer.specs.Fields.{trigger_is, gate_is, out_is}
-use Rattle.timer.specs.Shared.{Mode}
 use Rattle.timer.specs.Modes.{mode_of}
 use Rattle.timer.specs.declared.Counter.{Counter}
 

@@ -1,6 +1,5 @@
 -- One counter over n pulses.
-use Rattle.std.specs.Prelude.{ℕ, zero, suc, ◌+◌, Bool}
-use Rattle.bits.specs.Choice.{if◌then◌else◌}
+use Rattle.std.specs.Prelude.{ℕ, zero, suc, ◌+◌, Bool, if◌then◌else◌}
 use Rattle.timer.specs.Pulse.{pulse_of}
 use Rattle.timer.specs.declared.Counter.{Counter}
 use Rattle.timer.specs.declared.Ran.{Ran}

@@ -1,7 +1,6 @@
 -- What the modes share: how a count gets into the down counter, what a pulse counts, and the three ways in which a mode is started. The page of each
 -- mode says which of them it uses.
-use Rattle.std.specs.Prelude.{ℕ, Bool, true, false, eqb}
-use Rattle.bits.specs.Choice.{if◌then◌else◌}
+use Rattle.std.specs.Prelude.{ℕ, Bool, true, false, eqb, if◌then◌else◌}
 use Rattle.timer.specs.Fields.{value_is, pending_is, trigger_is, out_is}
 use Rattle.timer.specs.declared.Counter.{Counter}
 

@@ -1,7 +1,6 @@
 -- The program's way through n pulses once nothing pends: no transfer that a pulse makes, no trigger, no strobe that stands. A pulse then moves no more of a counter than its
 -- value, OUT and, in mode 3, whether the count was odd. Run.antt has the rule; proofs/Runs.antt shows that this comes to the same.
-use Rattle.std.specs.Prelude.{ℕ, zero, suc, ◌+◌, ◌-◌, ◌%◌, Bool, true, false, not, eqb}
-use Rattle.bits.specs.Choice.{if◌then◌else◌}
+use Rattle.std.specs.Prelude.{ℕ, zero, suc, ◌+◌, ◌-◌, ◌%◌, Bool, true, false, not, eqb, if◌then◌else◌}
 use Rattle.bits.specs.Bits.{less}
 use Rattle.timer.specs.Fields.{value_is, out_is, odd_is}
 use Rattle.timer.specs.Mode3.{end_of_half}

@@ -1,6 +1,5 @@
 -- The timer: three counters on one clock, its four ports, its gates and its outputs.
-use Rattle.std.specs.Prelude.{ℕ, ◌+◌, ◌%◌, Bool, true, false, List, [], ◌∷◌, eqb, get_or, set}
-use Rattle.bits.specs.Choice.{if◌then◌else◌}
+use Rattle.std.specs.Prelude.{ℕ, ◌+◌, ◌%◌, false, [], ◌∷◌, eqb, get_or, set, if◌then◌else◌}
 use Rattle.bits.specs.Bits.{bit_of, weighed}
 use Rattle.timer.specs.Ports.{reset_of, Answer, SC, control_of, write_of, read_of}
 use Rattle.timer.specs.Pulse.{pulse_of, gate_of}

@@ -1,5 +1,4 @@
 use Rattle.icu.specs.Service.{acknowledge_of}
-use borrow.Author.Rules.{rules}
 use Rattle.board.proofs.acknowledge.Goals as goal
 
 pub returns-in-Vector : goal.returns-in-Vector

@@ -1,5 +1,4 @@
 use borrow.Author.Tests.{le-ltb, lt-ltb}
-use Rattle.dma.specs.Registers.{taken}
 use Rattle.board.proofs.before_change.Goals as goal
 
 pub returns-then-rises-gt0 : goal.returns-then-rises-gt0

@@ -1,8 +1,6 @@
-use Rattle.board.specs.Wiring.{int, levels_of}
+use Rattle.board.specs.Wiring.{levels_of}
 use Rattle.bits.specs.Bits.{masked_of}
-use borrow.Author.Rules.{rules}
 use Rattle.timer.specs.Timer.{resets_of}
-use Rattle.dma.specs.Registers.{taken}
 use Rattle.board.proofs.levels_at.Goals as goal
 
 pub returns-then-int : goal.returns-then-int

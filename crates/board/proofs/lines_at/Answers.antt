@@ -1,5 +1,4 @@
 use Rattle.board.specs.Wiring.{lines_at}
-use borrow.Author.Rules.{rules}
 use Rattle.board.proofs.lines_at.Goals as goal
 
 pub returns : goal.returns

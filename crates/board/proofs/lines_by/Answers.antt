@@ -1,5 +1,3 @@
-use borrow.Author.Rules.{rules}
-use Rattle.dma.specs.Registers.{taken}
 use Rattle.board.proofs.lines_by.Goals as goal
 
 pub returns-then-out0 : goal.returns-then-out0

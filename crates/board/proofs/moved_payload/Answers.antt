@@ -1,4 +1,3 @@
-use borrow.Author.Rules.{rules}
 use Rattle.board.proofs.moved_payload.Goals as goal
 
 pub returns : goal.returns

@@ -1,4 +1,3 @@
-use borrow.Author.Rules.{rules}
 use Rattle.board.proofs.payload.Goals as goal
 
 pub returns-in-Nothing : goal.returns-in-Nothing

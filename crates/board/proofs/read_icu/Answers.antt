@@ -1,4 +1,3 @@
-use borrow.Author.Rules.{rules}
 use Rattle.board.specs.Operations.{read_of}
 use Rattle.board.proofs.read_icu.Goals as goal
 

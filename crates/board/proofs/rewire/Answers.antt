@@ -1,5 +1,4 @@
-use Rattle.board.specs.Wiring.{lines, lines_at}
-use borrow.Author.Rules.{rules}
+use Rattle.board.specs.Wiring.{lines_at}
 use Rattle.board.proofs.rewire.Goals as goal
 
 pub returns : goal.returns

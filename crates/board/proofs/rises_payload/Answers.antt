@@ -1,4 +1,3 @@
-use borrow.Author.Rules.{rules}
 use Rattle.board.proofs.rises_payload.Goals as goal
 
 pub returns : goal.returns

@@ -1,4 +1,3 @@
-use borrow.Author.Rules.{rules}
 use Rattle.board.specs.Operations.{write_of}
 use Rattle.board.proofs.write_icu.Goals as goal
 

@@ -1,5 +1,4 @@
 use mathlib.Core.Path.{◌∙◌}
-use borrow.Author.Rules.{rules}
 use Rattle.cascade.proofs.Rows.{single_row}
 use Rattle.cascade.proofs.decide.Goals as goal
 

@@ -1,5 +1,4 @@
 use Rattle.cascade.specs.Cascade.{answered}
-use borrow.Author.Rules.{rules}
 use Rattle.cascade.proofs.is_answered.Goals as goal
 
 pub returns-in-Nobody : goal.returns-in-Nobody

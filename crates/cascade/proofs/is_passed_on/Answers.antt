@@ -1,4 +1,3 @@
-use borrow.Author.Rules.{rules}
 use Rattle.cascade.specs.Cascade.{passed_on}
 use Rattle.cascade.proofs.is_passed_on.Goals as goal
 

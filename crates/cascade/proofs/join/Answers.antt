@@ -1,5 +1,4 @@
 use Rattle.cascade.specs.Cascade.{joined_of}
-use borrow.Author.Rules.{rules}
 use Rattle.cascade.proofs.join.Goals as goal
 
 pub returns-then-int : goal.returns-then-int

@@ -1,5 +1,4 @@
 use borrow.Author.Tests.{eq-eqb, ne_eqb}
-use borrow.Author.Rules.{rules}
 use Rattle.cascade.proofs.set_up.Goals as goal
 
 pub returns-then-bit : goal.returns-then-bit

@@ -1,4 +1,3 @@
-use borrow.Author.Rules.{rules}
 use Rattle.cascade.proofs.takes_7.Goals as goal
 
 pub returns-then-int : goal.returns-then-int

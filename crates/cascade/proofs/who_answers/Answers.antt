@@ -1,5 +1,4 @@
 use Rattle.cascade.specs.Cascade.{answerer_of}
-use borrow.Author.Rules.{rules}
 use Rattle.cascade.proofs.who_answers.Goals as goal
 
 pub returns : goal.returns

@@ -1,5 +1,4 @@
 use Rattle.dma.proofs.Inside.{room_inside}
-use borrow.Author.Rules.{rules}
 use Rattle.dma.proofs.is_inside.Goals as goal
 
 pub returns : goal.returns

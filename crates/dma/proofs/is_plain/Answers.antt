@@ -1,7 +1,5 @@
 use borrow.Author.Tests.{eq-eqb, le-leb, lt-leb, ne_eqb}
-use borrow.Author.Rules.{rules}
 use Rattle.dma.specs.Cycle.{plain_of}
-use Rattle.dma.specs.Registers.{taken}
 use Rattle.dma.proofs.is_plain.Goals as goal
 
 pub returns-then-n-ge-CHANNELS : goal.returns-then-n-ge-CHANNELS

@@ -1,5 +1,4 @@
 use Rattle.dma.proofs.Numbers.{fall, up}
-use borrow.Author.Rules.{rules}
 use Rattle.dma.proofs.next_address.Goals as goal
 
 pub returns-then-falls : goal.returns-then-falls

@@ -1,6 +1,5 @@
 use mathlib.Core.Path.{sym, ◌∙◌}
 use Rattle.dma.proofs.Inside.{in_length, peek_inside, peek_outside}
-use borrow.Author.Rules.{rules}
 use Rattle.dma.proofs.peek_byte.Goals as goal
 
 pub bounds-memory-at : goal.bounds-memory-at

@@ -1,7 +1,6 @@
 use mathlib.Core.Path.{sym, ◌∙◌}
 use Prim.Native.Nat.{◌+◌}
 use Rattle.dma.proofs.Inside.{in_length, next_inside, peek_inside, peek_outside}
-use borrow.Author.Rules.{rules}
 use Rattle.dma.proofs.peek_word.Goals as goal
 
 pub bounds-memory-at : goal.bounds-memory-at

@@ -1,6 +1,5 @@
 use mathlib.Core.Path.{sym, ◌∙◌}
 use Rattle.dma.proofs.Inside.{in_length, poke_inside, poke_outside}
-use borrow.Author.Rules.{rules}
 use Rattle.dma.proofs.poke_byte.Goals as goal
 
 pub bounds-memory-at : goal.bounds-memory-at

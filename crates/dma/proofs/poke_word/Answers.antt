@@ -1,7 +1,5 @@
 use mathlib.Core.Path.{sym, ◌∙◌}
-use Prim.Native.Nat.{◌+◌}
 use Rattle.dma.proofs.Inside.{in_length, next_inside, poke_both, poke_half, second_fits}
-use borrow.Author.Rules.{rules}
 use Rattle.dma.proofs.poke_word.Goals as goal
 
 pub bounds-memory-at : goal.bounds-memory-at

@@ -1,8 +1,7 @@
-use mathlib.Core.Path.{◌≡◌, refl, sym, ◌∙◌}
-use Prim.Native.Nat.{◌-◌, ◌≤◌}
+use mathlib.Core.Path.{refl, sym, ◌∙◌}
 use native.Mathlib.Omega.{arith}
 use borrow.Author.Rules.{rules}
-use Rattle.icu.specs.Ranks.{highest_from, highest_of}
+use Rattle.icu.specs.Ranks.{highest_of}
 use Rattle.icu.proofs.Ranks.{end, hit, miss, level_is}
 use Rattle.icu.proofs.highest_by_steps.Goals as goal
 

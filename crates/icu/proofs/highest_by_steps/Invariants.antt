@@ -1,9 +1,6 @@
-use mathlib.Core.Path.{◌≡◌, refl, sym, ◌∙◌}
+use mathlib.Core.Path.{◌≡◌}
 use Prim.Native.Nat.{◌-◌, ◌≤◌}
-use native.Mathlib.Omega.{arith}
-use borrow.Author.Rules.{rules}
 use Rattle.icu.specs.Ranks.{highest_from, highest_of}
-use Rattle.icu.proofs.Ranks.{end, hit, miss, level_is}
 use Rattle.icu.proofs.highest_by_steps.Given as goal
 
 abbrev pub invariant-loop-k : goal.invariant-loop-k

@@ -1,6 +1,5 @@
 use Rattle.icu.specs.Ranks.{rank_of}
 use mathlib.Core.Path.{refl}
-use borrow.Author.Rules.{rules}
 use Rattle.icu.proofs.rank.Goals as goal
 
 pub returns : goal.returns

@@ -1,5 +1,4 @@
 use Rattle.intake.specs.Ranges.{channels_good}
-use borrow.Author.Rules.{rules}
 use Rattle.intake.proofs.are_channels_good.Goals as goal
 
 pub returns-then-is_channel_good-3 : goal.returns-then-is_channel_good-3

@@ -1,7 +1,6 @@
 use mathlib.Core.Path.{sym, ◌∙◌}
 use Rattle.intake.proofs.Calls.{small, fed, fed_memory_law, fed_answers_law}
 use Rattle.intake.specs.Feed.{fed_answers, fed_memory, fed_of, taken}
-use borrow.Author.Rules.{rules}
 use Rattle.intake.proofs.feed.Goals as goal
 
 pub returns-else-good : goal.returns-else-good

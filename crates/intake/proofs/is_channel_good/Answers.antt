@@ -1,6 +1,5 @@
 use borrow.Author.Tests.{le-ltb, lt-ltb}
 use Rattle.intake.specs.Ranges.{channel_good}
-use borrow.Author.Rules.{rules}
 use Rattle.intake.proofs.is_channel_good.Goals as goal
 
 pub returns-then-c-lt-SPACE-2 : goal.returns-then-c-lt-SPACE-2

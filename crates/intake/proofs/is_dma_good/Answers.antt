@@ -1,6 +1,5 @@
 use borrow.Author.Tests.{le-ltb, lt-ltb}
 use Rattle.intake.specs.Ranges.{dma_good}
-use borrow.Author.Rules.{rules}
 use Rattle.intake.proofs.is_dma_good.Goals as goal
 
 pub returns-then-d-lt16-2 : goal.returns-then-d-lt16-2

@@ -1,6 +1,5 @@
 use borrow.Author.Tests.{le-ltb, lt-ltb}
 use Rattle.intake.specs.Ranges.{icu_good}
-use borrow.Author.Rules.{rules}
 use Rattle.intake.proofs.is_icu_good.Goals as goal
 
 pub returns-then-c-lt8 : goal.returns-then-c-lt8

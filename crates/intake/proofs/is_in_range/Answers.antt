@@ -1,7 +1,5 @@
 use borrow.Author.Tests.{eq-eqb, le-ltb, lt-ltb, ne_eqb}
 use Rattle.intake.specs.Ranges.{in_range}
-use borrow.Author.Rules.{rules}
-use Rattle.intake.specs.Feed.{taken}
 use Rattle.intake.proofs.is_in_range.Goals as goal
 
 pub returns-then-is_timer_good : goal.returns-then-is_timer_good

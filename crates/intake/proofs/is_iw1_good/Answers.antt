@@ -1,7 +1,5 @@
 use borrow.Author.Tests.{eq-eqb, ne_eqb}
 use Rattle.intake.specs.Ranges.{iw1_good}
-use borrow.Author.Rules.{rules}
-use Rattle.intake.specs.Feed.{taken}
 use Rattle.intake.proofs.is_iw1_good.Goals as goal
 
 pub returns-then-x-eq0 : goal.returns-then-x-eq0

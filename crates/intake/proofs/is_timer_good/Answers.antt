@@ -1,5 +1,4 @@
 use Rattle.intake.specs.Ranges.{timer_good}
-use borrow.Author.Rules.{rules}
 use Rattle.intake.proofs.is_timer_good.Goals as goal
 
 pub returns-then-is_counter_good-2 : goal.returns-then-is_counter_good-2

@@ -1,7 +1,6 @@
 use mathlib.Core.Path.{◌∙◌}
 use Rattle.intake.proofs.Calls.{none_left}
 use borrow.Author.Tests.{ne_eqb}
-use borrow.Author.Rules.{rules}
 use Rattle.intake.specs.Records.{rest_at}
 use Rattle.intake.proofs.rest_at.Goals as goal
 

@@ -1,5 +1,4 @@
 use Rattle.board.specs.Records.{digits_of, record_at}
-use borrow.Author.Rules.{rules}
 use Rattle.records.proofs.kept_word.Goals as goal
 
 pub returns : goal.returns

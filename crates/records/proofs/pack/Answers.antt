@@ -1,6 +1,5 @@
 use mathlib.Core.Path.{◌∙◌}
 use Rattle.records.proofs.Words.{digits}
-use borrow.Author.Rules.{rules}
 use Rattle.records.proofs.pack.Goals as goal
 
 pub returns : goal.returns

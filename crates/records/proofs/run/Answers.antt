@@ -1,16 +1,13 @@
 use mathlib.Core.Path.{◌≡◌, refl, ap, sym, ◌∙◌}
-use mathlib.Core.List.{List, ◌++◌}
-use Prim.Native.Nat.{ℕ, ◌+◌, ◌*◌, ◌-◌, ◌≤◌}
+use mathlib.Core.List.{◌++◌}
 use native.Mathlib.Omega.{arith}
 use borrow.Author.Rules.{rules}
 use borrow.Author.Tests.{eq-eqb}
-use lib.ListN.{length, take, drop}
+use lib.ListN.{length, take}
 use Rattle.tape.specs.declared.Operation.{Operation}
 use Rattle.tape.specs.declared.Decoded.TheVariants.{Asked}
 use Rattle.tape.proofs.Decodes.{read_counter}
 use Rattle.board.specs.declared.Board.{Board}
-use Rattle.cascade.specs.Cascade.{joined_of}
-use Rattle.board.specs.Wiring.{levels_of}
 use Rattle.board.specs.Records.{after, fitting}
 use Rattle.records.proofs.Runs.{round}
 use Rattle.records.proofs.Arms.{malformed, held_up, reset, wrote_icu, wrote_timer, refused_timer, wrote_dma, refused_dma, wrote_slave, refused_slave, read_icu, read_timer, read_dma, read_slave, intp, gates, requests, slave_intp, passed_on_law, acknowledge, unanswered, advance, plain_unit, cycle_by_call}
@@ -484,10 +481,6 @@ loop-i-preserved-in-Advance c =
     (omega (arith, c.loop-i-test.true)) l.invariant.1 (p.auto.to ∙ l.invariant.2)
     l.i n _ l.memory q.result l.memory l.answers p.new.to a.answers.now _ _ _
     l.invariant.3 l.invariant.4 l.invariant.5 q.ensures (advance n q.result l.memory l.joined l.invariant.6 l.levels l.invariant.7 _ (sym c.decode-d.ensures ∙ c.in-Asked.is) (sym c.is_blocked.ensures ∙ c.if-is_blocked.false) _ c.in-Advance.is _ _ _ c.run_pulses-a.ensures c.levels_at-levels-in-Advance.ensures c.rises_payload.ensures) p.ensures
-
--- TODO no goal overflow-mul-t224
--- mul-t224 : tie.Need-overflow-mul-t224 invariant-loop decreases-loop
--- mul-t224 c = search rules
 
 pub tell-requires-then-is_plain : goal.tell-requires-then-is_plain
 tell-requires-then-is_plain c = omega (arith, c.loop-i.invariant.2, c.least-k.ensures.upper_bound_2, c.loop-i-test.true)

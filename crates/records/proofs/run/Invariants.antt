@@ -1,19 +1,10 @@
-use mathlib.Core.Path.{◌≡◌, refl, ap, sym, ◌∙◌}
-use mathlib.Core.List.{List, ◌++◌}
-use Prim.Native.Nat.{ℕ, ◌+◌, ◌*◌, ◌-◌, ◌≤◌}
-use native.Mathlib.Omega.{arith}
-use borrow.Author.Rules.{rules}
-use borrow.Author.Tests.{eq-eqb}
+use mathlib.Core.Path.{◌≡◌}
+use mathlib.Core.List.{◌++◌}
+use Prim.Native.Nat.{◌*◌, ◌-◌, ◌≤◌}
 use lib.ListN.{length, take, drop}
-use Rattle.tape.specs.declared.Operation.{Operation}
-use Rattle.tape.specs.declared.Decoded.TheVariants.{Asked}
-use Rattle.tape.proofs.Decodes.{read_counter}
-use Rattle.board.specs.declared.Board.{Board}
 use Rattle.cascade.specs.Cascade.{joined_of}
 use Rattle.board.specs.Wiring.{levels_of}
-use Rattle.board.specs.Records.{after, fitting}
-use Rattle.records.proofs.Runs.{round}
-use Rattle.records.proofs.Arms.{malformed, held_up, reset, wrote_icu, wrote_timer, refused_timer, wrote_dma, refused_dma, wrote_slave, refused_slave, read_icu, read_timer, read_dma, read_slave, intp, gates, requests, slave_intp, passed_on_law, acknowledge, unanswered, advance, plain_unit, cycle_by_call}
+use Rattle.board.specs.Records.{after}
 use Rattle.records.proofs.run.Given as goal
 
 abbrev pub invariant-loop-i : goal.invariant-loop-i

@@ -1,5 +1,4 @@
 use Rattle.board.specs.Records.{digits_of, eight_from}
-use borrow.Author.Rules.{rules}
 use Rattle.records.proofs.tape_word.Goals as goal
 
 pub returns : goal.returns

@@ -1,5 +1,4 @@
 use Rattle.tape.specs.Answers.{answer_of}
-use borrow.Author.Rules.{rules}
 use Rattle.records.proofs.tell.Goals as goal
 
 pub returns : goal.returns

@@ -1,6 +1,5 @@
 use Rattle.tape.specs.Answers.{answer_of}
 use mathlib.Core.Path.{refl}
-use borrow.Author.Rules.{rules}
 use Rattle.tape.proofs.answer.Goals as goal
 
 pub returns : goal.returns

@@ -1,6 +1,5 @@
 use borrow.Author.Tests.{eq-eqb, ne_eqb}
 use Rattle.tape.specs.Records.{decode_of}
-use borrow.Author.Rules.{rules}
 use Rattle.tape.proofs.decode.Goals as goal
 
 pub returns-then-is_zero_from_1 : goal.returns-then-is_zero_from_1

@@ -1,6 +1,5 @@
 use borrow.Author.Tests.{eq-eqb, ne_eqb}
 use Rattle.tape.specs.Records.{unused}
-use borrow.Author.Rules.{rules}
 use Rattle.tape.proofs.is_zero_from_1.Goals as goal
 
 pub returns-then-r-ne0 : goal.returns-then-r-ne0

@@ -1,5 +1,4 @@
 use borrow.Author.Tests.{eq-eqb, ne_eqb}
-use borrow.Author.Rules.{rules}
 use Rattle.tape.specs.Records.{unused}
 use Rattle.tape.proofs.is_zero_from_4.Goals as goal
 

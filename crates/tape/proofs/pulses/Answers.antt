@@ -1,5 +1,4 @@
 use Rattle.tape.specs.Records.{pulse_count}
-use borrow.Author.Rules.{rules}
 use Rattle.tape.proofs.pulses.Goals as goal
 
 pub returns : goal.returns

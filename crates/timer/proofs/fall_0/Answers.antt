@@ -1,9 +1,8 @@
 use mathlib.Core.Path.{◌≡◌, refl}
-use Prim.Native.Nat.{ℕ, ◌-◌, ◌≤◌}
 use native.Mathlib.Omega.{arith}
 use borrow.Author.Rules.{rules}
 use borrow.Author.Tests.{eq-eqb, ne_eqb}
-use Rattle.timer.specs.Steady.{Moving, moved, moving, fall0, fell_of}
+use Rattle.timer.specs.Steady.{moved, fall0, fell_of}
 use Rattle.timer.proofs.Runs.{moved_on, fell_once, stays0}
 use Rattle.timer.proofs.fall_0.Goals as goal
 

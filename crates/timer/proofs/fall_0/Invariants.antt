@@ -1,10 +1,6 @@
-use mathlib.Core.Path.{◌≡◌, refl}
-use Prim.Native.Nat.{ℕ, ◌-◌, ◌≤◌}
-use native.Mathlib.Omega.{arith}
-use borrow.Author.Rules.{rules}
-use borrow.Author.Tests.{eq-eqb, ne_eqb}
-use Rattle.timer.specs.Steady.{Moving, moved, moving, fall0, fell_of}
-use Rattle.timer.proofs.Runs.{moved_on, fell_once, stays0}
+use mathlib.Core.Path.{◌≡◌}
+use Prim.Native.Nat.{◌-◌, ◌≤◌}
+use Rattle.timer.specs.Steady.{moved, moving, fall0, fell_of}
 use Rattle.timer.proofs.fall_0.Given as goal
 
 abbrev pub invariant-loop-i : goal.invariant-loop-i

@@ -1,12 +1,10 @@
-use mathlib.Core.Path.{◌≡◌, refl, sym}
-use mathlib.Core.Bool.{true, false}
-use Prim.Native.Nat.{ℕ, ◌-◌, ◌≤◌}
+use mathlib.Core.Path.{◌≡◌, refl}
 use native.Mathlib.Nat.{add-zero}
 use native.Mathlib.Omega.{arith}
 use borrow.Author.Rules.{rules}
 use borrow.Author.Tests.{eq-eqb, ne_eqb}
 use Rattle.timer.specs.declared.Fall.{Fall}
-use Rattle.timer.specs.Steady.{Moving, moved, fall2, fell_of}
+use Rattle.timer.specs.Steady.{moved, fall2, fell_of}
 use Rattle.timer.proofs.Runs.{on, no_rise, no_rise_low}
 use Rattle.timer.proofs.fall_2.Goals as goal
 

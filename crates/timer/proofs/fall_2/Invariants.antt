@@ -1,13 +1,7 @@
-use mathlib.Core.Path.{◌≡◌, refl, sym}
-use mathlib.Core.Bool.{true, false}
-use Prim.Native.Nat.{ℕ, ◌-◌, ◌≤◌}
-use native.Mathlib.Nat.{add-zero}
-use native.Mathlib.Omega.{arith}
-use borrow.Author.Rules.{rules}
-use borrow.Author.Tests.{eq-eqb, ne_eqb}
+use mathlib.Core.Path.{◌≡◌}
+use Prim.Native.Nat.{◌-◌, ◌≤◌}
 use Rattle.timer.specs.declared.Fall.{Fall}
-use Rattle.timer.specs.Steady.{Moving, moved, fall2, fell_of}
-use Rattle.timer.proofs.Runs.{on, no_rise, no_rise_low}
+use Rattle.timer.specs.Steady.{moved, fall2, fell_of}
 use Rattle.timer.proofs.fall_2.Given as goal
 
 abbrev pub invariant-loop-i : goal.invariant-loop-i

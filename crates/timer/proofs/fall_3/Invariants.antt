@@ -1,12 +1,7 @@
-use mathlib.Core.Path.{◌≡◌, refl}
+use mathlib.Core.Path.{◌≡◌}
 use Prim.Native.Nat.{◌-◌, ◌≤◌}
-use native.Mathlib.Nat.{add-zero}
-use native.Mathlib.Omega.{arith}
-use borrow.Author.Rules.{rules}
-use borrow.Author.Tests.{eq-eqb, ne_eqb}
 use Rattle.timer.specs.declared.Fall.{Fall}
 use Rattle.timer.specs.Steady.{moved, fall3, fell_of}
-use Rattle.timer.proofs.Runs.{on, no_rise}
 use Rattle.timer.proofs.fall_3.Given as goal
 
 abbrev pub invariant-loop-i : goal.invariant-loop-i

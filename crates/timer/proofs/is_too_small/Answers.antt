@@ -2,7 +2,6 @@ use Rattle.timer.specs.Modes.{mode_of}
 use mathlib.Core.Path.{sym}
 use native.Mathlib.Omega.{arith}
 use borrow.Author.Tests.{le-ltb, ne_eqb}
-use borrow.Author.Rules.{rules}
 use Rattle.timer.proofs.is_too_small.Goals as goal
 
 pub returns-then-n-eq0 : goal.returns-then-n-eq0

@@ -1,5 +1,4 @@
 use Rattle.board.specs.Step.{execute_of, memory_after}
-use borrow.Author.Rules.{rules}
 use Rattle.board.proofs.Board.execute.Goals as goal
 
 pub returns-in-Reset : goal.returns-in-Reset

@@ -1,5 +1,3 @@
-use Rattle.board.specs.Wiring.{lines}
-use borrow.Author.Rules.{rules}
 use Rattle.board.proofs.Board.follow.Goals as goal
 
 pub returns : goal.returns

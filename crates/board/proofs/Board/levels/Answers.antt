@@ -1,5 +1,4 @@
 use Rattle.board.specs.Wiring.{levels_of}
-use borrow.Author.Rules.{rules}
 use Rattle.board.proofs.Board.levels.Goals as goal
 
 pub returns : goal.returns

@@ -1,5 +1,4 @@
 use Rattle.board.specs.Step.{answered_of}
-use borrow.Author.Rules.{rules}
 use Rattle.board.specs.Operations.{slave_gives}
 use Rattle.board.proofs.Board.pass_on.Goals as goal
 

@@ -1,8 +1,6 @@
 use Rattle.board.specs.Step.{answered_of}
 use Rattle.board.specs.Operations.{dma_shown}
 use borrow.Author.Tests.{eq-eqb, ne_eqb}
-use borrow.Author.Rules.{rules}
-use Rattle.dma.specs.Registers.{taken}
 use Rattle.board.proofs.Board.read_dma.Goals as goal
 
 pub returns-then-g-eq0 : goal.returns-then-g-eq0

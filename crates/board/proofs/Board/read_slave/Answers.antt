@@ -1,5 +1,4 @@
 use Rattle.board.specs.Step.{answered_of}
-use borrow.Author.Rules.{rules}
 use Rattle.board.specs.Operations.{slave_shown}
 use Rattle.board.proofs.Board.read_slave.Goals as goal
 

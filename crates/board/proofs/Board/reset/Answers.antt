@@ -1,5 +1,4 @@
 use Rattle.board.specs.Wiring.{fresh_of}
-use borrow.Author.Rules.{rules}
 use Rattle.board.proofs.Board.reset.Goals as goal
 
 pub returns : goal.returns

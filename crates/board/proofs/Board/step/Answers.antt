@@ -1,6 +1,4 @@
 use Rattle.board.specs.Step.{blocked, memory_of, outcome_of, step_memory, step_of}
-use borrow.Author.Rules.{rules}
-use Rattle.dma.specs.Registers.{taken}
 use Rattle.board.proofs.Board.step.Goals as goal
 
 pub returns-in_default : goal.returns-in_default

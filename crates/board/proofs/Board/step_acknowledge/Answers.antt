@@ -1,8 +1,5 @@
 use Rattle.board.specs.Operations.{acknowledge_of}
 use Rattle.board.specs.Step.{answered_of}
-use Rattle.board.specs.Wiring.{lines}
-use borrow.Author.Rules.{rules}
-use Rattle.dma.specs.Registers.{taken}
 use Rattle.board.proofs.Board.step_acknowledge.Goals as goal
 
 pub returns-then-is_passed_on : goal.returns-then-is_passed_on

@@ -1,6 +1,5 @@
 use Rattle.board.specs.Advance.{advance_of}
 use Rattle.board.specs.Step.{answered_of}
-use borrow.Author.Rules.{rules}
 use Rattle.board.proofs.Board.step_advance.Goals as goal
 
 pub returns : goal.returns

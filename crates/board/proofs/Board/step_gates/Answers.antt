@@ -1,6 +1,5 @@
 use Rattle.board.specs.Step.{answered_of}
 use Rattle.timer.specs.Timer.{gates_of}
-use borrow.Author.Rules.{rules}
 use Rattle.board.proofs.Board.step_gates.Goals as goal
 
 pub returns : goal.returns

@@ -1,5 +1,4 @@
 use Rattle.board.specs.Step.{answered_of}
-use borrow.Author.Rules.{rules}
 use Rattle.board.proofs.Board.step_intp.Goals as goal
 
 pub returns : goal.returns

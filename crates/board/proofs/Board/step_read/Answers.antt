@@ -1,8 +1,6 @@
 use Rattle.board.specs.Step.{answered_of}
 use borrow.Author.Tests.{eq-eqb, ne_eqb}
-use borrow.Author.Rules.{rules}
 use Rattle.board.specs.Operations.{read_of}
-use Rattle.dma.specs.Registers.{taken}
 use Rattle.board.proofs.Board.step_read.Goals as goal
 
 pub returns-then-chip-eq0 : goal.returns-then-chip-eq0

@@ -1,5 +1,4 @@
 use Rattle.board.specs.Step.{answered_of}
-use borrow.Author.Rules.{rules}
 use Rattle.dma.specs.Registers.{requested_of}
 use Rattle.board.proofs.Board.step_requests.Goals as goal
 

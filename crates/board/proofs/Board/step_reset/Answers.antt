@@ -1,6 +1,5 @@
 use Rattle.board.specs.Step.{answered_of}
 use Rattle.board.specs.Wiring.{fresh_of}
-use borrow.Author.Rules.{rules}
 use Rattle.board.proofs.Board.step_reset.Goals as goal
 
 pub returns : goal.returns

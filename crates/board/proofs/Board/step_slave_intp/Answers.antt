@@ -1,6 +1,4 @@
 use Rattle.board.specs.Step.{answered_of}
-use Rattle.board.specs.Wiring.{lines}
-use borrow.Author.Rules.{rules}
 use Rattle.board.proofs.Board.step_slave_intp.Goals as goal
 
 pub returns : goal.returns

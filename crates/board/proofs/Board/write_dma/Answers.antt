@@ -1,8 +1,6 @@
 use Rattle.board.specs.Step.{answered_of}
 use Rattle.board.specs.Operations.{dma_written}
 use borrow.Author.Tests.{eq-eqb, ne_eqb}
-use borrow.Author.Rules.{rules}
-use Rattle.dma.specs.Registers.{taken}
 use Rattle.board.proofs.Board.write_dma.Goals as goal
 
 pub returns-then-w-eq0 : goal.returns-then-w-eq0

@@ -3,7 +3,6 @@ use borrow.Author.Tests.{eq-eqb, ne_eqb}
 use Rattle.board.specs.Operations.{slave_written}
 use Rattle.board.specs.Step.{answered_of}
 use Rattle.board.specs.declared.Turn.{Turn}
-use borrow.Author.Rules.{rules}
 use Rattle.board.proofs.Board.write_slave.Goals as goal
 
 pub returns-then-t-eq0 : goal.returns-then-t-eq0

@@ -1,7 +1,5 @@
 use Rattle.board.specs.Step.{answered_of}
 use borrow.Author.Tests.{eq-eqb, ne_eqb}
-use borrow.Author.Rules.{rules}
-use Rattle.dma.specs.Registers.{taken}
 use Rattle.board.specs.Operations.{timer_written}
 use Rattle.board.proofs.Board.write_timer.Goals as goal
 

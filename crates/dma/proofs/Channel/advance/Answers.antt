@@ -1,5 +1,4 @@
 use Rattle.dma.specs.Cycle.{moved_of}
-use borrow.Author.Rules.{rules}
 use Rattle.dma.proofs.Channel.advance.Goals as goal
 
 pub returns-then-bit : goal.returns-then-bit

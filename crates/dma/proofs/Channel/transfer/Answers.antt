@@ -1,7 +1,6 @@
 use mathlib.Core.Path.{sym, ◌∙◌}
 use borrow.Author.Tests.{eq-eqb, ne_eqb}
 use Rattle.dma.proofs.Units.{wrote_word, wrote_byte, read_word, read_byte, verified, stored_word, stored_byte, untouched}
-use borrow.Author.Rules.{rules}
 use Rattle.dma.proofs.Channel.transfer.Goals as goal
 
 pub poke_word-requires : goal.poke_word-requires

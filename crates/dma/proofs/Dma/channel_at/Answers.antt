@@ -1,9 +1,7 @@
 use mathlib.Core.Path.{sym}
 use lib.ListN.{get_or-eq_default}
-use Rattle.dma.proofs.Lists.{unmapped}
 use native.Mathlib.Omega.{arith}
 use Rattle.dma.specs.Fields.{none}
-use borrow.Author.Rules.{rules}
 use Rattle.dma.proofs.Dma.channel_at.Goals as goal
 
 pub returns-then-n-eq0 : goal.returns-then-n-eq0

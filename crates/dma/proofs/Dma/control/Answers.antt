@@ -1,6 +1,5 @@
 use borrow.Author.Tests.{eq-eqb, ne_eqb}
 use Rattle.dma.specs.Registers.{controlled_of}
-use borrow.Author.Rules.{rules}
 use Rattle.dma.proofs.Dma.control.Goals as goal
 
 pub returns-then-masked-eq0 : goal.returns-then-masked-eq0

@@ -3,7 +3,6 @@ use Rattle.dma.specs.Cycle.{cycle_of}
 use Rattle.dma.specs.Cycle.{released_of}
 use Rattle.dma.specs.Cycle.{nothing_of}
 use Rattle.dma.specs.Cycle.{granted_of}
-use borrow.Author.Rules.{rules}
 use Rattle.dma.proofs.Dma.cycle.Goals as goal
 
 pub returns-then-does_release : goal.returns-then-does_release

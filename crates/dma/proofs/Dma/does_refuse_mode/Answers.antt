@@ -1,5 +1,4 @@
-use borrow.Author.Rules.{rules}
-use Rattle.dma.specs.Registers.{refuses_mode, taken}
+use Rattle.dma.specs.Registers.{refuses_mode}
 use Rattle.dma.proofs.Dma.does_refuse_mode.Goals as goal
 
 pub returns-then-is_unbuilt_mode : goal.returns-then-is_unbuilt_mode

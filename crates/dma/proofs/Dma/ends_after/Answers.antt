@@ -1,4 +1,3 @@
-use borrow.Author.Rules.{rules}
 use Rattle.dma.proofs.Dma.ends_after.Goals as goal
 
 pub returns-then-last : goal.returns-then-last

@@ -1,8 +1,6 @@
-use mathlib.Core.Path.{◌≡◌, refl, sym, ◌∙◌}
-use Prim.Native.Nat.{ℕ, ◌-◌, ◌≤◌}
+use mathlib.Core.Path.{refl, sym, ◌∙◌}
 use native.Mathlib.Omega.{arith}
 use borrow.Author.Rules.{rules}
-use Rattle.dma.specs.Cycle.{ready, winner_from, winner}
 use Rattle.dma.proofs.Ranks.{end, hit, miss}
 use Rattle.dma.proofs.Dma.find_winner.Goals as goal
 

@@ -1,9 +1,6 @@
-use mathlib.Core.Path.{◌≡◌, refl, sym, ◌∙◌}
-use Prim.Native.Nat.{ℕ, ◌-◌, ◌≤◌}
-use native.Mathlib.Omega.{arith}
-use borrow.Author.Rules.{rules}
-use Rattle.dma.specs.Cycle.{ready, winner_from, winner}
-use Rattle.dma.proofs.Ranks.{end, hit, miss}
+use mathlib.Core.Path.{◌≡◌}
+use Prim.Native.Nat.{◌-◌, ◌≤◌}
+use Rattle.dma.specs.Cycle.{winner_from, winner}
 use Rattle.dma.proofs.Dma.find_winner.Given as goal
 
 abbrev pub invariant-loop-k : goal.invariant-loop-k

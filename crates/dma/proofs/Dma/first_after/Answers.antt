@@ -1,5 +1,4 @@
 use Rattle.dma.proofs.Numbers.{turn}
-use borrow.Author.Rules.{rules}
 use Rattle.dma.proofs.Dma.first_after.Goals as goal
 
 pub returns-then-self : goal.returns-then-self

@@ -1,5 +1,4 @@
-use borrow.Author.Rules.{rules}
-use Rattle.dma.specs.Registers.{taken, any_words}
+use Rattle.dma.specs.Registers.{any_words}
 use Rattle.dma.proofs.Dma.has_words.Goals as goal
 
 pub returns-then-bit : goal.returns-then-bit

@@ -1,5 +1,4 @@
-use Rattle.dma.specs.Registers.{initialized_of, refused, taken}
-use borrow.Author.Rules.{rules}
+use Rattle.dma.specs.Registers.{initialized_of}
 use Rattle.dma.proofs.Dma.initialize.Goals as goal
 
 pub returns-then-bit : goal.returns-then-bit

@@ -1,5 +1,4 @@
 use Rattle.dma.specs.Cycle.{ready}
-use borrow.Author.Rules.{rules}
 use Rattle.dma.proofs.Dma.is_ready.Goals as goal
 
 pub returns-then-c : goal.returns-then-c

@@ -1,6 +1,5 @@
 use borrow.Author.Tests.{eq-eqb, ne_eqb}
-use Rattle.dma.specs.Registers.{unbuilt_mode, taken}
-use borrow.Author.Rules.{rules}
+use Rattle.dma.specs.Registers.{unbuilt_mode}
 use Rattle.dma.proofs.Dma.is_unbuilt_mode.Goals as goal
 
 pub returns-then-x-eq3 : goal.returns-then-x-eq3

@@ -1,5 +1,4 @@
 use Rattle.dma.specs.Registers.{loaded_of}
-use borrow.Author.Rules.{rules}
 use Rattle.dma.proofs.Dma.load.Goals as goal
 
 pub returns-then-self : goal.returns-then-self

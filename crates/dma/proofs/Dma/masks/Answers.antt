@@ -1,4 +1,3 @@
-use borrow.Author.Rules.{rules}
 use Rattle.dma.proofs.Dma.masks.Goals as goal
 
 pub returns : goal.returns

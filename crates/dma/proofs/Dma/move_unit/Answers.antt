@@ -1,5 +1,4 @@
 use Rattle.dma.specs.Cycle.{unit_of}
-use borrow.Author.Rules.{rules}
 use Rattle.dma.proofs.Dma.move_unit.Goals as goal
 
 pub returns : goal.returns

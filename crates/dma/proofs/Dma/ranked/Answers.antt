@@ -1,6 +1,5 @@
 use native.Mathlib.Omega.{arith}
 use Rattle.dma.specs.Cycle.{channel_at}
-use borrow.Author.Rules.{rules}
 use Rattle.dma.proofs.Dma.ranked.Goals as goal
 
 pub returns-then-self : goal.returns-then-self

@@ -1,6 +1,5 @@
 use mathlib.Core.Path.{refl}
 use Rattle.dma.specs.Cycle.{released_of}
-use borrow.Author.Rules.{rules}
 use Rattle.dma.proofs.Dma.release.Goals as goal
 
 pub returns : goal.returns

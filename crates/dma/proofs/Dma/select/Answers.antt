@@ -1,5 +1,4 @@
 use Rattle.dma.specs.Registers.{selected_of}
-use borrow.Author.Rules.{rules}
 use Rattle.dma.proofs.Dma.select.Goals as goal
 
 pub returns : goal.returns

@@ -1,5 +1,4 @@
 use Rattle.dma.specs.Registers.{masked_by}
-use borrow.Author.Rules.{rules}
 use Rattle.dma.proofs.Dma.set_masks.Goals as goal
 
 pub returns : goal.returns

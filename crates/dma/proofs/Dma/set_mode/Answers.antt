@@ -1,5 +1,4 @@
-use Rattle.dma.specs.Registers.{moded_of, refused, taken}
-use borrow.Author.Rules.{rules}
+use Rattle.dma.specs.Registers.{moded_of}
 use Rattle.dma.proofs.Dma.set_mode.Goals as goal
 
 pub returns-then-does_refuse_mode : goal.returns-then-does_refuse_mode

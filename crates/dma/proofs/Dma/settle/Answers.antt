@@ -1,4 +1,3 @@
-use borrow.Author.Rules.{rules}
 use Rattle.dma.proofs.Dma.settle.Goals as goal
 
 pub returns-then-stop : goal.returns-then-stop

@@ -1,5 +1,4 @@
 use Rattle.dma.specs.Registers.{shown_span}
-use borrow.Author.Rules.{rules}
 use Rattle.dma.proofs.Dma.shown_span.Goals as goal
 
 pub returns-then-self : goal.returns-then-self

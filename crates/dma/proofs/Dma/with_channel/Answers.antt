@@ -1,7 +1,5 @@
-use Rattle.dma.proofs.Lists.{unmapped}
 use native.Mathlib.Omega.{arith}
 use lib.Seq.{set_out}
-use borrow.Author.Rules.{rules}
 use Rattle.dma.proofs.Dma.with_channel.Goals as goal
 
 pub returns-then-n-eq0 : goal.returns-then-n-eq0

@@ -1,6 +1,5 @@
 use borrow.Author.Tests.{eq-eqb, le-leb, le-ltb, lt-leb, lt-ltb, ne_eqb}
 use Rattle.dma.specs.Registers.{write_of}
-use borrow.Author.Rules.{rules}
 use Rattle.dma.proofs.Dma.write.Goals as goal
 
 pub returns-then-r-eq-INITIALIZE : goal.returns-then-r-eq-INITIALIZE

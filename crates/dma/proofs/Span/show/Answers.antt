@@ -1,6 +1,5 @@
 use borrow.Author.Tests.{eq-eqb, ne_eqb}
 use Rattle.dma.specs.Registers.{byte_at}
-use borrow.Author.Rules.{rules}
 use Rattle.dma.proofs.Span.show.Goals as goal
 
 pub returns-then-register-eq-COUNT : goal.returns-then-register-eq-COUNT

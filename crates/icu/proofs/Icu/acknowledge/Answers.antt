@@ -1,6 +1,5 @@
 use borrow.Author.Tests.{eq-eqb, ne_eqb}
 use Rattle.icu.specs.Service.{acknowledge_of}
-use borrow.Author.Rules.{rules}
 use Rattle.icu.proofs.Icu.acknowledge.Goals as goal
 
 pub returns-then-int : goal.returns-then-int

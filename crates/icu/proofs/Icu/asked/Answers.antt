@@ -1,5 +1,4 @@
 use Rattle.icu.specs.Requests.{asked_of}
-use borrow.Author.Rules.{rules}
 use Rattle.icu.proofs.Icu.asked.Goals as goal
 
 pub returns : goal.returns

@@ -1,4 +1,3 @@
-use borrow.Author.Rules.{rules}
 use Rattle.icu.proofs.Icu.await_iw4.Goals as goal
 
 pub returns-then-bit : goal.returns-then-bit

@@ -1,5 +1,4 @@
 use Rattle.icu.specs.Service.{call_low_of}
-use borrow.Author.Rules.{rules}
 use Rattle.icu.proofs.Icu.call_low.Goals as goal
 
 pub returns-then-bit : goal.returns-then-bit

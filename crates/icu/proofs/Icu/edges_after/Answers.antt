@@ -1,4 +1,3 @@
-use borrow.Author.Rules.{rules}
 use Rattle.bits.specs.Bits.{without_of}
 use Rattle.icu.proofs.Icu.edges_after.Goals as goal
 

@@ -1,6 +1,5 @@
 use borrow.Author.Tests.{eq-eqb, ne_eqb}
 use Rattle.icu.specs.Words.{finished}
-use borrow.Author.Rules.{rules}
 use Rattle.icu.proofs.Icu.finish.Goals as goal
 
 pub returns-then-self-eq0 : goal.returns-then-self-eq0

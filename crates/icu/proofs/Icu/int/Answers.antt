@@ -2,7 +2,6 @@ use borrow.Author.Tests.{eq-eqb, ne_eqb}
 use mathlib.Core.Path.{sym, ◌∙◌}
 use Rattle.icu.specs.Requests.{int_of}
 use Rattle.icu.proofs.Int.{none_asked, none_served, by_rank}
-use borrow.Author.Rules.{rules}
 use Rattle.icu.proofs.Icu.int.Goals as goal
 
 pub returns-then-a-eq-LEVELS : goal.returns-then-a-eq-LEVELS

@@ -1,5 +1,4 @@
 use Rattle.icu.specs.Requests.{irr_of}
-use borrow.Author.Rules.{rules}
 use Rattle.icu.proofs.Icu.irr.Goals as goal
 
 pub returns-then-bit : goal.returns-then-bit

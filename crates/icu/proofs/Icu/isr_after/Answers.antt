@@ -1,4 +1,3 @@
-use borrow.Author.Rules.{rules}
 use Rattle.bits.specs.Bits.{with_of}
 use Rattle.icu.proofs.Icu.isr_after.Goals as goal
 

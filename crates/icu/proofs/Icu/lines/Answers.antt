@@ -1,6 +1,5 @@
 use borrow.Author.Tests.{eq-eqb, ne_eqb}
 use Rattle.icu.specs.Requests.{lines_of}
-use borrow.Author.Rules.{rules}
 use Rattle.icu.proofs.Icu.lines.Goals as goal
 
 pub returns-then-self-ne-READY : goal.returns-then-self-ne-READY

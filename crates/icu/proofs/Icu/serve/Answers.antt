@@ -1,4 +1,3 @@
-use borrow.Author.Rules.{rules}
 use Rattle.icu.proofs.Served.{serves_by}
 use Rattle.icu.proofs.Icu.serve.Goals as goal
 

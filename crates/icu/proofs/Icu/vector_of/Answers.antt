@@ -1,6 +1,5 @@
 use Rattle.icu.specs.Service.{vector_of}
 use mathlib.Core.Path.{refl}
-use borrow.Author.Rules.{rules}
 use Rattle.icu.proofs.Icu.vector_of.Goals as goal
 
 pub returns : goal.returns

@@ -1,6 +1,5 @@
 use borrow.Author.Tests.{eq-eqb, ne_eqb}
 use Rattle.icu.specs.Words.{write_of}
-use borrow.Author.Rules.{rules}
 use Rattle.icu.proofs.Icu.write.Goals as goal
 
 pub returns-then-a0 : goal.returns-then-a0

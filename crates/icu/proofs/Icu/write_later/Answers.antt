@@ -1,6 +1,5 @@
 use borrow.Author.Tests.{eq-eqb, ne_eqb}
 use Rattle.icu.specs.Words.{later_word}
-use borrow.Author.Rules.{rules}
 use Rattle.icu.proofs.Icu.write_later.Goals as goal
 
 pub returns-then-self-eq-READY : goal.returns-then-self-eq-READY

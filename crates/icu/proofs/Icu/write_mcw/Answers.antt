@@ -1,5 +1,4 @@
 use Rattle.icu.specs.Words.{mcw}
-use borrow.Author.Rules.{rules}
 use Rattle.icu.proofs.Icu.write_mcw.Goals as goal
 
 pub returns-then-bit : goal.returns-then-bit

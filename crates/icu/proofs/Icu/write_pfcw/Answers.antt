@@ -3,7 +3,6 @@ use Prim.Native.Nat.{◌/◌, ◌<◌}
 use native.Mathlib.Omega.{arith}
 use Rattle.bits.specs.Bits.{bit_of}
 use Rattle.icu.proofs.Command.{pfcw_is}
-use borrow.Author.Tests.{ne_eqb}
 use borrow.Author.Rules.{rules}
 use Rattle.icu.proofs.Icu.write_pfcw.Goals as goal
 

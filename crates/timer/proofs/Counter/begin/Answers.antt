@@ -1,5 +1,4 @@
 use Rattle.timer.specs.Ports.{begun}
-use borrow.Author.Rules.{rules}
 use Rattle.timer.proofs.Counter.begin.Goals as goal
 
 pub returns : goal.returns

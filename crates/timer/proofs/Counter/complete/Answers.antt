@@ -1,5 +1,4 @@
 use Rattle.timer.specs.Ports.{completed}
-use borrow.Author.Rules.{rules}
 use Rattle.timer.proofs.Counter.complete.Goals as goal
 
 pub returns-then-takes_each : goal.returns-then-takes_each

@@ -1,6 +1,5 @@
 use borrow.Author.Tests.{eq-eqb, ne_eqb}
 use Rattle.timer.specs.Ports.{control_of}
-use borrow.Author.Rules.{rules}
 use Rattle.timer.proofs.Counter.control.Goals as goal
 
 pub returns-then-word-eq0 : goal.returns-then-word-eq0

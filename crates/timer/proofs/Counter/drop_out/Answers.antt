@@ -1,4 +1,3 @@
-use borrow.Author.Rules.{rules}
 use Rattle.timer.proofs.Counter.drop_out.Goals as goal
 
 pub returns-then-drops_out : goal.returns-then-drops_out

@@ -1,7 +1,5 @@
 use borrow.Author.Tests.{eq-eqb, ne_eqb}
 use Rattle.timer.specs.Ports.{read_of, seen_of}
-use borrow.Author.Rules.{rules}
-use Rattle.timer.proofs.Looks.{shown}
 use Rattle.timer.proofs.Counter.look.Goals as goal
 
 pub returns-then-self-eq-LOW : goal.returns-then-self-eq-LOW

@@ -1,6 +1,5 @@
 use Rattle.timer.specs.Modes.{mode_of}
 use borrow.Author.Tests.{ne_eqb}
-use borrow.Author.Rules.{rules}
 use Rattle.timer.specs.Pulse.{pulse_of}
 use Rattle.timer.proofs.Counter.pulse.Goals as goal
 

@@ -1,5 +1,4 @@
 use borrow.Author.Tests.{eq-eqb, ne_eqb}
-use borrow.Author.Rules.{rules}
 use Rattle.timer.specs.Mode1.{pulse1}
 use Rattle.timer.proofs.Counter.pulse_1.Goals as goal
 

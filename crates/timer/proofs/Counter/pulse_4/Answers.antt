@@ -1,5 +1,4 @@
 use borrow.Author.Tests.{eq-eqb, ne_eqb}
-use borrow.Author.Rules.{rules}
 use Rattle.timer.specs.Mode4.{pulse4}
 use Rattle.timer.proofs.Counter.pulse_4.Goals as goal
 

@@ -1,5 +1,4 @@
 use borrow.Author.Tests.{eq-eqb, ne_eqb}
-use borrow.Author.Rules.{rules}
 use Rattle.timer.specs.Mode5.{pulse5}
 use Rattle.timer.proofs.Counter.pulse_5.Goals as goal
 

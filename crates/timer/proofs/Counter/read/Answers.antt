@@ -1,4 +1,3 @@
-use borrow.Author.Rules.{rules}
 use Rattle.timer.proofs.Looks.{shown, hidden}
 use Rattle.timer.proofs.Counter.read.Goals as goal
 

@@ -1,5 +1,4 @@
 use borrow.Author.Tests.{ne_eqb}
-use borrow.Author.Rules.{rules}
 use Rattle.timer.proofs.Runs.{steady_unset, steady_in_0, steady_in_1, steady_in_2, steady_in_3, steady_in_4, steady_in_5, steady_in_none}
 use Rattle.timer.proofs.Counter.run_steady.Goals as goal
 

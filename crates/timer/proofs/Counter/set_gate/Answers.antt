@@ -1,5 +1,4 @@
 use Rattle.timer.specs.Pulse.{gate_of}
-use borrow.Author.Rules.{rules}
 use Rattle.timer.proofs.Counter.set_gate.Goals as goal
 
 pub returns-then-self : goal.returns-then-self

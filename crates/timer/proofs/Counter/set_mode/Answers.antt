@@ -1,5 +1,4 @@
 use Rattle.timer.specs.Ports.{mode_set}
-use borrow.Author.Rules.{rules}
 use Rattle.timer.proofs.Counter.set_mode.Goals as goal
 
 pub returns : goal.returns

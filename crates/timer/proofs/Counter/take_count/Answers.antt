@@ -1,5 +1,4 @@
 use Rattle.timer.specs.Ports.{count_of, told_wrote}
-use borrow.Author.Rules.{rules}
 use Rattle.timer.proofs.Counter.take_count.Goals as goal
 
 pub returns-then-is_too_small : goal.returns-then-is_too_small

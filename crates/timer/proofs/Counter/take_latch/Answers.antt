@@ -1,6 +1,5 @@
 use Rattle.timer.specs.Ports.{latch_word}
 use Rattle.timer.specs.Ports.{told_wrote}
-use borrow.Author.Rules.{rules}
 use Rattle.timer.proofs.Counter.take_latch.Goals as goal
 
 pub returns-then-self : goal.returns-then-self

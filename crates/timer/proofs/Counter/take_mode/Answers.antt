@@ -1,6 +1,5 @@
 use borrow.Author.Tests.{eq-eqb, le-ltb, lt-ltb, ne_eqb}
 use Rattle.timer.specs.Ports.{mode_word, told_wrote}
-use borrow.Author.Rules.{rules}
 use Rattle.timer.proofs.Counter.take_mode.Goals as goal
 
 pub returns-then-word-eq1 : goal.returns-then-word-eq1

@@ -1,7 +1,6 @@
 use borrow.Author.Tests.{eq-eqb, ne_eqb}
 use Rattle.timer.specs.Ports.{write_of}
 use Rattle.timer.specs.Ports.{told_wrote}
-use borrow.Author.Rules.{rules}
 use Rattle.timer.proofs.Counter.write.Goals as goal
 
 pub returns-then-self-eq-LOW : goal.returns-then-self-eq-LOW

@@ -1,7 +1,6 @@
 use Rattle.timer.proofs.Laws.{wrote_back}
 use Rattle.timer.specs.Timer.{wrote_by}
 use Rattle.timer.specs.Ports.{told_wrote}
-use borrow.Author.Rules.{rules}
 use Rattle.timer.proofs.Timer.answer.Goals as goal
 
 pub returns-in-Taken : goal.returns-in-Taken

@@ -1,6 +1,5 @@
 use borrow.Author.Tests.{eq-eqb, ne_eqb}
 use Rattle.timer.specs.Timer.{controls_of}
-use borrow.Author.Rules.{rules}
 use Rattle.timer.proofs.Timer.control.Goals as goal
 
 pub returns-then-n-eq3 : goal.returns-then-n-eq3

@@ -1,6 +1,5 @@
 use native.Mathlib.Omega.{arith}
 use Rattle.timer.specs.Timer.{outs_of}
-use borrow.Author.Rules.{rules}
 use Rattle.timer.proofs.Timer.outs.Goals as goal
 
 pub returns : goal.returns

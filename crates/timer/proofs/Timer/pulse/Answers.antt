@@ -1,5 +1,4 @@
 use Rattle.timer.specs.Timer.{pulses_of}
-use borrow.Author.Rules.{rules}
 use Rattle.timer.proofs.Timer.pulse.Goals as goal
 
 pub returns : goal.returns

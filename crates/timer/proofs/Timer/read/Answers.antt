@@ -3,7 +3,6 @@ use borrow.Author.Tests.{eq-eqb, ne_eqb}
 use Rattle.timer.specs.Timer.{reads_of}
 use Rattle.timer.specs.Timer.{got_by}
 use Rattle.timer.specs.Ports.{told_shown}
-use borrow.Author.Rules.{rules}
 use Rattle.timer.proofs.Timer.read.Goals as goal
 
 pub returns-then-port-eq-CONTROL : goal.returns-then-port-eq-CONTROL

@@ -1,5 +1,4 @@
 use Rattle.timer.specs.Timer.{resets_of}
-use borrow.Author.Rules.{rules}
 use Rattle.timer.proofs.Timer.reset.Goals as goal
 
 pub returns : goal.returns

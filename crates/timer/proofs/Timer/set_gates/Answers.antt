@@ -1,5 +1,4 @@
 use Rattle.timer.specs.Timer.{gates_of}
-use borrow.Author.Rules.{rules}
 use Rattle.timer.proofs.Timer.set_gates.Goals as goal
 
 pub returns : goal.returns

@@ -1,6 +1,5 @@
 use borrow.Author.Tests.{eq-eqb, ne_eqb}
 use Rattle.timer.specs.Timer.{writes_of}
-use borrow.Author.Rules.{rules}
 use Rattle.timer.proofs.Timer.write.Goals as goal
 
 pub returns-then-port-eq-CONTROL : goal.returns-then-port-eq-CONTROL
