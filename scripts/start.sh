@@ -1,6 +1,6 @@
 # start.sh: how a program is started. ./run and the package's run take it in; both set `me`, the name that their messages begin with. A
-# program of the language has no exit status. It tells one instead: as the last thing it does it writes a number and a line feed to
-# descriptor 9.
+# program tells its exit status as the last thing it does, by a number and a line feed that it writes to descriptor 9; a program that told
+# nothing did not come to its end.
 # shellcheck shell=sh disable=SC2094
 
 # Says something on standard error, and fails with it.

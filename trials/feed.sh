@@ -557,6 +557,20 @@ lines'; do
     says 'm\x1B[31m: No such file or directory'
 }
 
+trial_feed_name_not_text() { # a memory whose name is not UTF-8, or that a link with such a text leads to, is refused before the run, and is as it was
+    name=$(printf 'm\377')
+    cp "$work/before" "$name"
+    ln -s "$name" link
+    for memory in "$name" link; do
+        start feed "$memory" <"$tape"
+        status_is 1
+        same "$name" "$work/before"
+        [ ! -e "$name.new" ] || wrong "$name.new" 'no such file' 'a file'
+    done
+    start feed "$name" <"$tape"
+    says 'not UTF-8, and a path has to be; nothing was run'
+}
+
 # A path of so many characters to the file m: ./././m
 long_path() { # LENGTH
     if [ $(($1 % 2)) -eq 1 ]; then printf 'm' >path; else printf './/m' | cut -c1-4 >path; fi

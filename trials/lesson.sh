@@ -473,6 +473,18 @@ trial_lesson_names_shown() { # control characters in a name are shown, not sent,
     done
 }
 
+trial_lesson_name_not_text() { # a name that is not UTF-8 is told, with status 1, and the lessons after it still run
+    name=$(printf 'a\377.lesson')
+    good >"$name"
+    good >b.lesson
+    start lesson b.lesson
+    cp out one
+    start lesson "$name" b.lesson
+    status_is 1
+    says_of "$name" 'the name is not UTF-8'
+    wrote one
+}
+
 # The answer column, as one line.
 answer_column() { cut -c42-73 out | tr -s ' \n' ' '; }
 

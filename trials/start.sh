@@ -99,6 +99,14 @@ trial_duel_arguments() { # --help after charts and an empty argument: the usage,
     ! grep -q "$(printf '\033')" out || wrong 'standard output' 'no control character' "$(head -n 2 out)"
 }
 
+trial_duel_name_not_text() { # a chart file whose name is not UTF-8 is told, counted among the files not read, with status 1
+    name=$(printf 'a\377.chart')
+    printf 'chart b\nreset\n' >"$name"
+    start duel "$name"
+    status_is 1
+    says_of "$name" 'the name is not UTF-8'
+}
+
 # bad_chart TEXT PLACE MESSAGE: a chart file, as printf writes it, whose one bad line gets that message; its chart `a` is not run, and `b` is.
 bad_chart() {
     # shellcheck disable=SC2059

@@ -61,7 +61,7 @@ pub fn read_link(rt: &HostRuntime, path: &[u8]) -> Result<Option<PathBuf>, Error
 }
 
 // A path as std takes it.
-pub fn text_of(path: &[u8]) -> Result<&str, Error> {
+pub(crate) fn text_of(path: &[u8]) -> Result<&str, Error> {
     match str::from_utf8(path) {
         Ok(text) => Ok(text),
         Err(_) => Err(Error::from(ErrorKind::InvalidFilename)),

@@ -18,7 +18,7 @@ pub enum Held {
 }
 
 impl Held {
-    pub fn is_lost(&self) -> bool {
+    pub(crate) fn is_lost(&self) -> bool {
         match self {
             Held::Lost => true,
             _ => false,

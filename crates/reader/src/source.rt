@@ -12,7 +12,7 @@ pub enum Source {
 }
 
 impl Source {
-    pub fn input(rt: &HostRuntime) -> Source {
+    pub(crate) fn input(rt: &HostRuntime) -> Source {
         Source::Input(rt.stdin())
     }
 
@@ -25,7 +25,7 @@ impl Source {
     }
 
     // One read.
-    pub fn read(&self, buf: &mut [u8]) -> io::Result<usize>
+    pub(crate) fn read(&self, buf: &mut [u8]) -> io::Result<usize>
         ensures { ReadsAtMost result buf.new }
     {
         match self {
@@ -41,7 +41,7 @@ impl Source {
     }
 
     // Whether the next read is from the start again. Standard input is read once.
-    pub fn rewind(&self) -> bool {
+    pub(crate) fn rewind(&self) -> bool {
         match self {
             Source::Input(_) => false,
             Source::File(file) => {

@@ -28,7 +28,7 @@ pub const USAGE: u8 = 2;
 // Nobody reads the output any more: what a shell says of a program that this ended.
 pub const CLOSED: u8 = 141;
 
-// A program of the language has no exit status. It writes the number to this descriptor, which `run` holds open and reads; where it is not open, nobody hears it.
+// A program writes the number to this descriptor, which `run` holds open and reads, and ends with; where it is not open, nobody hears it.
 const TOLD: i32 = 9;
 
 // The last thing that a program does.
