@@ -1,5 +1,5 @@
 -- The records that a run of bytes makes, one after another.
-use Rattle.std.specs.Prelude.{ℕ, zero, suc, ◌+◌, ◌*◌, ◌/◌, ◌%◌, List, [], ◌∷◌, ◌++◌, ltb, length, get_or, if◌then◌else◌}
+use Rattle.std.specs.Prelude.{ℕ, zero, suc, ◌+◌, ◌*◌, ◌/◌, List, [], ◌∷◌, ◌++◌, ltb, length, get_or, if◌then◌else◌}
 use Rattle.board.specs.declared.Board.{Board}
 use Rattle.board.specs.Step.{step_of, step_memory}
 
@@ -42,28 +42,3 @@ fitting s room = if ltb (room / 16) (length s / 8) then room / 16 else length s 
 
 abbrev pub run_of : Board → List ℕ → List ℕ → ℕ → Run
 run_of b m s room = after b m s (fitting s room)
-
--- The eight bytes from a place on, and those of a number, little end first: for the program, which hands a record on as one number.
-unfoldable pub eight_from : List ℕ → ℕ → List ℕ
-eight_from s a =
-    get_or s a 0
-    ∷ get_or s (a + 1) 0
-    ∷ get_or s (a + 2) 0
-    ∷ get_or s (a + 3) 0
-    ∷ get_or s (a + 4) 0
-    ∷ get_or s (a + 5) 0
-    ∷ get_or s (a + 6) 0
-    ∷ get_or s (a + 7) 0
-    ∷ []
-
-unfoldable pub digits_of : ℕ → List ℕ
-digits_of w =
-    w % 256
-    ∷ w / 256 % 256
-    ∷ w / 65536 % 256
-    ∷ w / 16777216 % 256
-    ∷ w / 4294967296 % 256
-    ∷ w / 1099511627776 % 256
-    ∷ w / 281474976710656 % 256
-    ∷ w / 72057594037927936 % 256
-    ∷ []

@@ -1,10 +1,8 @@
 -- One record.
-use Rattle.std.specs.Prelude.{ℕ, Bool, List, if◌then◌else◌}
+use Rattle.std.specs.Prelude.{ℕ, Bool, List, if◌then◌else◌, Option, Some, None}
 use Rattle.bits.specs.Choice.{◌and◌}
 use Rattle.tape.specs.declared.Operation.{Operation}
 use Rattle.tape.specs.declared.Operation.TheVariants.{Reset, Write, Read, Intp, Gates, Requests, SlaveIntp, Acknowledge, Advance, Cycle}
-use Rattle.tape.specs.declared.Decoded.{Decoded}
-use Rattle.tape.specs.declared.Decoded.TheVariants.{Asked, Malformed}
 use Rattle.tape.specs.Records.{byte, decode_of, uses_bus}
 use Rattle.tape.specs.Answers.{answer_of}
 use Rattle.timer.specs.Timer.{gates_of}
@@ -46,13 +44,13 @@ unfoldable pub blocked : Board → Operation → Bool
 blocked b o = b.dma.serving and uses_bus o
 
 -- The order of the checks: 2 by the record's bytes alone, then 1, then what the operation itself refuses.
-unfoldable pub outcome_of : Board → Decoded → List ℕ → Outcome
-outcome_of b Malformed m = refused 2 b
-outcome_of b (Asked o) m = if blocked b o then refused 1 b else execute_of b o m
+unfoldable pub outcome_of : Board → Option Operation → List ℕ → Outcome
+outcome_of b None m = refused 2 b
+outcome_of b (Some o) m = if blocked b o then refused 1 b else execute_of b o m
 
-unfoldable pub memory_of : Board → Decoded → List ℕ → List ℕ
-memory_of b Malformed m = m
-memory_of b (Asked o) m = if blocked b o then m else memory_after b o m
+unfoldable pub memory_of : Board → Option Operation → List ℕ → List ℕ
+memory_of b None m = m
+memory_of b (Some o) m = if blocked b o then m else memory_after b o m
 
 -- The board and the answer. The levels are those after the record.
 unfoldable pub answered_of : ℕ → Outcome → Stepped

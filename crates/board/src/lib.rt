@@ -18,20 +18,20 @@ ghost use Rattle.board.specs.Advance.{advanced_of, rises_payload, advance_of};
 ghost use Rattle.board.specs.Step.{step_of, step_memory, answered_of, execute_of, memory_after};
 
 use dma::{Dma, Report};
-use icu::{Acknowledged, Got, Icu, Written};
-use tape::{Decoded, Operation};
+use icu::{Icu, Named, Refusal};
+use tape::Operation;
 use timer::Timer;
 
 // The bytes of a cut record, which wait for the next call.
 #[repr(C)]
-#[derive(Clone, Copy)]
+#[derive(Clone, Copy, PartialEq, Eq)]
 pub struct Kept {
     pub bytes: [u8; 7],
     pub length: u8,
 }
 
 #[repr(C)]
-#[derive(Clone, Copy)]
+#[derive(Clone, Copy, PartialEq, Eq)]
 pub struct Board {
     // the master
     pub icu: Icu,
@@ -52,6 +52,31 @@ pub struct Turn {
     pub status: u8,
     pub byte: u8,
     pub payload: [u8; 12],
+}
+
+impl Turn {
+    fn told(icu: Icu, byte: u8) -> Turn
+        ensures { result ≡ record { icu = icu; status = 0; byte = byte; payload = twelve [] } }
+    {
+        Turn {
+            icu,
+            status: 0,
+            byte,
+            payload: [0; 12],
+        }
+    }
+
+    // Refused by number: the chip stays as it was.
+    fn refused(icu: Icu, status: u8) -> Turn
+        ensures { result ≡ record { icu = icu; status = status; byte = 0; payload = twelve [] } }
+    {
+        Turn {
+            icu,
+            status,
+            byte: 0,
+            payload: [0; 12],
+        }
+    }
 }
 
 // The interrupt chip once its lines have changed, and the levels that an answer then shows.
@@ -80,26 +105,23 @@ fn lines_by(intp: u8, out0: bool) -> u8
     ensures { result ≡ lines_by intp out0 }
 {
     if out0 {
-        return bits::with(intp, 0);
+        bits::with(intp, 0)
+    } else {
+        bits::without(intp, 0)
     }
-    bits::without(intp, 0)
 }
 
 pub fn lines_at(intp: u8, timer: Timer) -> u8
     ensures { result ≡ lines_at intp timer }
 {
-    let c = timer.counters[0];
-    lines_by(intp, c.out)
+    lines_by(intp, timer.counters[0].out)
 }
 
 // The level of OUT0 before its last change: where it rose, the other one than now.
 fn before_change(was: bool, now: bool, rises: u32) -> bool
     ensures { result ≡ (if ltb 0 rises then not now else was) }
 {
-    if 0 < rises {
-        return !now;
-    }
-    was
+    if 0 < rises { !now } else { was }
 }
 
 // n pulses, counter by counter. The interrupt chip keeps no more of them than the last change of OUT0.
@@ -109,39 +131,24 @@ pub fn run_pulses(timer: Timer, icu: Icu, intp: u8, n: u32) -> Run
     // for the proof: then the timer is itself, and not three counters put together
     if n == 0 {
         return Run {
-            timer: timer,
-            icu: icu,
+            timer,
+            icu,
             rises: [0, 0, 0],
         };
     }
     let a = timer.counters[0];
-    let b = timer.counters[1];
-    let c = timer.counters[2];
     let ra = a.run(n);
-    let rb = b.run(n);
-    let rc = c.run(n);
+    let rb = timer.counters[1].run(n);
+    let rc = timer.counters[2].run(n);
     let na = ra.counter;
-    let nb = rb.counter;
-    let nc = rc.counter;
-    let after = Timer {
-        counters: [na, nb, nc],
-    };
-    let rises = [ra.rises, rb.rises, rc.rises];
     let from = before_change(a.out, na.out, ra.rises);
     Run {
-        timer: after,
+        timer: Timer {
+            counters: [na, rb.counter, rc.counter],
+        },
         icu: icu.lines(lines_by(intp, from), lines_by(intp, na.out)),
-        rises: rises,
+        rises: [ra.rises, rb.rises, rc.rises],
     }
-}
-
-fn flag(k: bool) -> u8
-    ensures { result ≡ flag_of k }
-{
-    if k {
-        return 1;
-    }
-    0
 }
 
 // A unit as payload.
@@ -155,10 +162,10 @@ pub fn moved_payload(
 ) -> [u8; 12]
     ensures { result ≡ twelve (2 ∷ channel ∷ flag_of end ∷ flag_of stopped ∷ little_of address ++ flag_of outside ∷ upper ∷ []) }
 {
-    let a = tape::little(address);
-    let e = flag(end);
-    let s = flag(stopped);
-    let o = flag(outside);
+    let a = address.to_le_bytes();
+    let e = u8::from(end);
+    let s = u8::from(stopped);
+    let o = u8::from(outside);
     [2, channel, e, s, a[0], a[1], a[2], a[3], o, upper, 0, 0]
 }
 
@@ -167,18 +174,12 @@ pub fn payload(report: Report) -> [u8; 12]
     ensures { result ≡ twelve (payload_of (told report)) }
 {
     match report {
-        Report::Nothing => {
-            return [0u8; 12];
-        }
-        Report::Granted(n) => {
-            return [1, n, 0, 0, 0, 0, 0, 0, 0, 0, 0, 0];
-        }
+        Report::Nothing => [0; 12],
+        Report::Granted(n) => [1, n, 0, 0, 0, 0, 0, 0, 0, 0, 0, 0],
         Report::Moved(u) => {
-            return moved_payload(u.channel, u.end, u.stopped, u.address, u.outside, u.upper);
+            moved_payload(u.channel, u.end, u.stopped, u.address, u.outside, u.upper)
         }
-        Report::Released(n) => {
-            return [3, n, 0, 1, 0, 0, 0, 0, 0, 0, 0, 0];
-        }
+        Report::Released(n) => [3, n, 0, 1, 0, 0, 0, 0, 0, 0, 0, 0],
     }
 }
 
@@ -187,10 +188,8 @@ pub fn byte_moved(report: Report) -> u8
     ensures { result ≡ (told report).byte }
 {
     match report {
-        Report::Nothing => 0,
-        Report::Granted(_) => 0,
         Report::Moved(u) => u.byte,
-        Report::Released(_) => 0,
+        _ => 0,
     }
 }
 
@@ -198,32 +197,25 @@ pub fn byte_moved(report: Report) -> u8
 pub fn rises_payload(rises: [u32; 3]) -> [u8; 12]
     ensures { result ≡ twelve (rises_payload rises) }
 {
-    let a = tape::little(rises[0]);
-    let b = tape::little(rises[1]);
-    let c = tape::little(rises[2]);
-    [
-        a[0], a[1], a[2], a[3], b[0], b[1], b[2], b[3], c[0], c[1], c[2], c[3],
-    ]
+    let mut p = [0; 12];
+    p[..4].copy_from_slice(&rises[0].to_le_bytes());
+    p[4..8].copy_from_slice(&rises[1].to_le_bytes());
+    p[8..].copy_from_slice(&rises[2].to_le_bytes());
+    p
 }
 
 // The levels of an answer: OUT0 to OUT2, and INT.
 pub fn levels_at(icu: Icu, intp: u8, timer: Timer) -> u8
     ensures { result ≡ levels_at icu intp timer }
 {
-    let outs = timer.outs();
-    if icu.int(lines_at(intp, timer)) {
-        return outs + 8;
-    }
-    outs
+    timer.outs() + 8 * u8::from(icu.int(lines_at(intp, timer)))
 }
 
 // Other INTP levels or another timer: what changed of the eight lines reaches the interrupt chip.
 pub fn rewire(icu: Icu, intp: u8, timer: Timer, new_intp: u8, new_timer: Timer) -> Wired
     ensures { result ≡ wired_to icu (lines_at intp timer) new_intp new_timer }
 {
-    let was = lines_at(intp, timer);
-    let now = lines_at(new_intp, new_timer);
-    let next = icu.lines(was, now);
+    let next = icu.lines(lines_at(intp, timer), lines_at(new_intp, new_timer));
     Wired {
         icu: next,
         levels: levels_at(next, new_intp, new_timer),
@@ -233,88 +225,34 @@ pub fn rewire(icu: Icu, intp: u8, timer: Timer, new_intp: u8, new_timer: Timer) 
 pub fn write_icu(icu: Icu, iw3: u8, a0: bool, x: u8) -> Turn
     ensures { result ≡ turn_of (IcuWords.write_of icu iw3 a0 x) }
 {
-    let w = icu.write(iw3, a0, x);
-    match w {
-        Written::Taken(c) => {
-            return Turn {
-                icu: c,
-                status: 0,
-                byte: 0,
-                payload: [0u8; 12],
-            };
-        }
-        Written::OutOfTurn => {
-            return Turn {
-                icu: icu,
-                status: 3,
-                byte: 0,
-                payload: [0u8; 12],
-            };
-        }
-        Written::NotBuilt => {
-            return Turn {
-                icu: icu,
-                status: 4,
-                byte: 0,
-                payload: [0u8; 12],
-            };
-        }
+    match icu.write(iw3, a0, x) {
+        Ok(c) => Turn::told(c, 0),
+        Err(Refusal::OutOfTurn) => Turn::refused(icu, 3),
+        Err(Refusal::NotBuilt) => Turn::refused(icu, 4),
     }
 }
 
 pub fn read_icu(icu: Icu, a0: bool, lines: u8) -> Turn
     ensures { result ≡ turn_of (IcuService.read_of icu a0 lines) }
 {
-    let g = icu.read(a0, lines);
-    match g {
-        Got::Shown(x) => {
-            return Turn {
-                icu: icu,
-                status: 0,
-                byte: x,
-                payload: [0u8; 12],
-            };
-        }
-        Got::NotReady => {
-            return Turn {
-                icu: icu,
-                status: 3,
-                byte: 0,
-                payload: [0u8; 12],
-            };
-        }
+    match icu.read(a0, lines) {
+        Some(x) => Turn::told(icu, x),
+        None => Turn::refused(icu, 3),
     }
 }
 
 pub fn acknowledge(icu: Icu, lines: u8) -> Turn
     ensures { result ≡ turn_of (IcuService.acknowledge_of icu lines) }
 {
-    let a = icu.acknowledge(lines);
-    match a {
-        Acknowledged::Vector(c, x) => {
-            return Turn {
-                icu: c,
-                status: 0,
-                byte: x,
-                payload: [0u8; 12],
-            };
-        }
-        Acknowledged::Call(c, low, high) => {
-            return Turn {
-                icu: c,
-                status: 0,
-                byte: 0,
-                payload: [0xcd, low, high, 0, 0, 0, 0, 0, 0, 0, 0, 0],
-            };
-        }
-        Acknowledged::Unready => {
-            return Turn {
-                icu: icu,
-                status: 3,
-                byte: 0,
-                payload: [0u8; 12],
-            };
-        }
+    match icu.acknowledge(lines) {
+        Some((c, Named::Vector(x))) => Turn::told(c, x),
+        Some((c, Named::Call(low, high))) => Turn {
+            icu: c,
+            status: 0,
+            byte: 0,
+            payload: [0xcd, low, high, 0, 0, 0, 0, 0, 0, 0, 0, 0],
+        },
+        None => Turn::refused(icu, 3),
     }
 }
 
@@ -322,10 +260,7 @@ pub fn acknowledge(icu: Icu, lines: u8) -> Turn
 pub fn is_blocked(serving: bool, o: Operation) -> bool
     ensures { result ≡ serving and uses_bus o }
 {
-    if serving {
-        return o.uses_bus();
-    }
-    false
+    serving && o.uses_bus()
 }
 
 impl Board {
@@ -341,7 +276,7 @@ impl Board {
             timer: Timer::reset(),
             dma: Dma::reset(),
             kept: Kept {
-                bytes: [0, 0, 0, 0, 0, 0, 0],
+                bytes: [0; 7],
                 length: 0,
             },
         }
@@ -351,39 +286,40 @@ impl Board {
     pub fn levels(self) -> u8
         ensures { result ≡ levels_of self }
     {
-        let i = self.icu;
-        let s = self.slave;
-        let t = self.timer;
-        levels_at(i, cascade::join(self.intp, s, self.slaveintp), t)
+        levels_at(
+            self.icu,
+            cascade::join(self.intp, self.slave, self.slaveintp),
+            self.timer,
+        )
     }
 
     // The master's eight lines.
     fn lines(self) -> u8
         ensures { result ≡ lines self }
     {
-        let s = self.slave;
-        let t = self.timer;
-        lines_at(cascade::join(self.intp, s, self.slaveintp), t)
+        lines_at(
+            cascade::join(self.intp, self.slave, self.slaveintp),
+            self.timer,
+        )
     }
 
     // The master sees its lines go from those of the board before a record to those of the board that the record has made.
     fn follow(self, was: Board) -> Board
         ensures { result ≡ followed was self }
     {
-        let i = self.icu;
-        let mut next = self;
-        next.icu = i.lines(was.lines(), self.lines());
-        next
+        Board {
+            icu: self.icu.lines(was.lines(), self.lines()),
+            ..self
+        }
     }
 
     // What a record comes to: this board, and the answer. `op` is the record's first byte, which the answer repeats.
     fn tell(self, op: u8, status: u8, byte: u8, payload: [u8; 12]) -> Stepped
         ensures { result ≡ answered_of op (record { status = status; board = self; byte = byte; payload = payload }) }
     {
-        let levels = self.levels();
         Stepped {
             board: self,
-            answer: tape::answer(status, op, byte, levels, payload),
+            answer: tape::answer(status, op, byte, self.levels(), payload),
         }
     }
 
@@ -391,259 +327,210 @@ impl Board {
     fn tell_turn(self, op: u8, t: Turn) -> Stepped
         ensures { result ≡ answered_of op (record { status = t.status; board = self; byte = t.byte; payload = t.payload }) }
     {
-        let p = t.payload;
-        self.tell(op, t.status, t.byte, p)
+        self.tell(op, t.status, t.byte, t.payload)
     }
 
     fn write_master(self, op: u8, port: u8, x: u8) -> Stepped
         ensures { result ≡ answered_of op (icu_told self (icu_written self (a0 port) x)) }
     {
-        let i = self.icu;
-        let t = write_icu(i, cascade::MASTER_IW3, port % Icu::PORTS == 1, x);
-        let after = t.icu;
-        let mut next = self;
-        next.icu = after;
-        next.tell_turn(op, t)
+        let t = write_icu(self.icu, cascade::MASTER_IW3, port % Icu::PORTS == 1, x);
+        Board { icu: t.icu, ..self }.tell_turn(op, t)
     }
 
     // OUT0 may change, and reaches the master at once.
+    #[tactic(auto, using(crate::proofs::Refusals::never_0), unfolding(crate::specs::Step::answered_of, crate::specs::Operations::timer_written))]
     fn write_timer(self, op: u8, port: u8, x: u8) -> Stepped
         ensures { result ≡ answered_of op (timer_written self port x) }
     {
-        let t = self.timer;
-        let w = t.write(port, x);
-        if w.status == 0 {
-            let after = w.timer;
-            let mut next = self;
-            next.timer = after;
-            let seen = next.follow(self);
-            return seen.tell(op, 0, 0, [0u8; 12]);
+        match self.timer.write(port, x) {
+            Ok(timer) => Board { timer, ..self }.follow(self).tell(op, 0, 0, [0; 12]),
+            Err(refusal) => self.tell(op, refusal.status(), 0, [0; 12]),
         }
-        self.tell(op, w.status, 0, [0u8; 12])
     }
 
+    #[tactic(auto, using(dma::proofs::Refusals::never_0), unfolding(crate::specs::Step::answered_of, crate::specs::Operations::dma_written))]
     fn write_dma(self, op: u8, port: u8, x: u8) -> Stepped
         ensures { result ≡ answered_of op (dma_written self port x) }
     {
-        let d = self.dma;
-        let w = d.write(port, x);
-        if w.status == 0 {
-            let after = w.dma;
-            let mut next = self;
-            next.dma = after;
-            return next.tell(op, 0, 0, [0u8; 12]);
+        match self.dma.write(port, x) {
+            Ok(dma) => Board { dma, ..self }.tell(op, 0, 0, [0; 12]),
+            Err(refusal) => self.tell(op, refusal.status(), 0, [0; 12]),
         }
-        self.tell(op, w.status, 0, [0u8; 12])
     }
 
     // The slave's INT may change, and line 7 with it.
     fn write_slave(self, op: u8, port: u8, x: u8) -> Stepped
         ensures { result ≡ answered_of op (slave_written self (a0 port) x) }
     {
-        let s = self.slave;
-        let t = write_icu(s, cascade::SLAVE_IW3, port % Icu::PORTS == 1, x);
+        let t = write_icu(self.slave, cascade::SLAVE_IW3, port % Icu::PORTS == 1, x);
         if t.status == 0 {
-            let after = t.icu;
-            let mut next = self;
-            next.slave = after;
-            let seen = next.follow(self);
-            return seen.tell(op, 0, 0, [0u8; 12]);
+            let next = Board {
+                slave: t.icu,
+                ..self
+            };
+            return next.follow(self).tell(op, 0, 0, [0; 12]);
         }
-        self.tell(op, t.status, 0, [0u8; 12])
+        self.tell(op, t.status, 0, [0; 12])
     }
 
     // The port's high digit names the chip: 0 master, 1 timer, 2 DMA chip, 3 slave.
     fn step_write(self, op: u8, port: u8, x: u8) -> Stepped
         ensures { result ≡ answered_of op (write_of self port x) }
     {
-        let chip = port / 16;
-        if chip == 0 {
-            return self.write_master(op, port, x);
+        match port / 16 {
+            0 => self.write_master(op, port, x),
+            1 => self.write_timer(op, port, x),
+            2 => self.write_dma(op, port, x),
+            _ => self.write_slave(op, port, x),
         }
-        if chip == 1 {
-            return self.write_timer(op, port, x);
-        }
-        if chip == 2 {
-            return self.write_dma(op, port, x);
-        }
-        self.write_slave(op, port, x)
     }
 
     fn read_master(self, op: u8, port: u8) -> Stepped
         ensures { result ≡ answered_of op (icu_told self (icu_shown self (a0 port))) }
     {
-        let i = self.icu;
-        let t = read_icu(i, port % Icu::PORTS == 1, self.lines());
-        let after = t.icu;
-        let mut next = self;
-        next.icu = after;
-        next.tell_turn(op, t)
+        let t = read_icu(self.icu, port % Icu::PORTS == 1, self.lines());
+        Board { icu: t.icu, ..self }.tell_turn(op, t)
     }
 
+    #[tactic(auto, using(crate::proofs::Refusals::never_0), unfolding(crate::specs::Step::answered_of, crate::specs::Operations::timer_shown))]
     fn read_timer(self, op: u8, port: u8) -> Stepped
         ensures { result ≡ answered_of op (timer_shown self port) }
     {
-        let t = self.timer;
-        let g = t.read(port);
-        if g.status == 0 {
-            let after = g.timer;
-            let mut next = self;
-            next.timer = after;
-            return next.tell(op, 0, g.byte, [0u8; 12]);
+        match self.timer.read(port) {
+            Ok((byte, timer)) => Board { timer, ..self }.tell(op, 0, byte, [0; 12]),
+            Err(refusal) => self.tell(op, refusal.status(), 0, [0; 12]),
         }
-        self.tell(op, g.status, 0, [0u8; 12])
     }
 
+    #[tactic(auto, using(dma::proofs::Refusals::never_0), unfolding(crate::specs::Step::answered_of, crate::specs::Operations::dma_shown))]
     fn read_dma(self, op: u8, port: u8) -> Stepped
         ensures { result ≡ answered_of op (dma_shown self port) }
     {
-        let d = self.dma;
-        let g = d.read(port);
-        if g.status == 0 {
-            let after = g.dma;
-            let mut next = self;
-            next.dma = after;
-            return next.tell(op, 0, g.byte, [0u8; 12]);
+        match self.dma.read(port) {
+            Ok((byte, dma)) => Board { dma, ..self }.tell(op, 0, byte, [0; 12]),
+            Err(refusal) => self.tell(op, refusal.status(), 0, [0; 12]),
         }
-        self.tell(op, g.status, 0, [0u8; 12])
     }
 
     fn read_slave(self, op: u8, port: u8) -> Stepped
         ensures { result ≡ answered_of op (slave_shown self (a0 port)) }
     {
-        let s = self.slave;
-        self.tell_turn(op, read_icu(s, port % Icu::PORTS == 1, self.slaveintp))
+        self.tell_turn(
+            op,
+            read_icu(self.slave, port % Icu::PORTS == 1, self.slaveintp),
+        )
     }
 
     fn step_read(self, op: u8, port: u8) -> Stepped
         ensures { result ≡ answered_of op (read_of self port) }
     {
-        let chip = port / 16;
-        if chip == 0 {
-            return self.read_master(op, port);
+        match port / 16 {
+            0 => self.read_master(op, port),
+            1 => self.read_timer(op, port),
+            2 => self.read_dma(op, port),
+            _ => self.read_slave(op, port),
         }
-        if chip == 1 {
-            return self.read_timer(op, port);
-        }
-        if chip == 2 {
-            return self.read_dma(op, port);
-        }
-        self.read_slave(op, port)
     }
 
     // The bytes of a cut record outlast a reset.
     fn step_reset(self, op: u8) -> Stepped
         ensures { result ≡ answered_of op (done (reset_of self)) }
     {
-        let kept = self.kept;
-        let mut next = Board::reset();
-        next.kept = kept;
-        next.tell(op, 0, 0, [0u8; 12])
+        let next = Board {
+            kept: self.kept,
+            ..Board::reset()
+        };
+        next.tell(op, 0, 0, [0; 12])
     }
 
     fn step_intp(self, op: u8, x: u8) -> Stepped
         ensures { result ≡ answered_of op (done (followed self (intp_is x self))) }
     {
-        let mut next = self;
-        next.intp = x;
-        let seen = next.follow(self);
-        seen.tell(op, 0, 0, [0u8; 12])
+        let next = Board { intp: x, ..self };
+        next.follow(self).tell(op, 0, 0, [0; 12])
     }
 
     // A gate's fall may set OUT0 high.
     fn step_gates(self, op: u8, x: u8) -> Stepped
         ensures { result ≡ answered_of op (done (followed self (timer_is (gates_of self.timer x) self))) }
     {
-        let t = self.timer;
-        let mut next = self;
-        next.timer = t.set_gates(x);
-        let seen = next.follow(self);
-        seen.tell(op, 0, 0, [0u8; 12])
+        let next = Board {
+            timer: self.timer.set_gates(x),
+            ..self
+        };
+        next.follow(self).tell(op, 0, 0, [0; 12])
     }
 
     fn step_requests(self, op: u8, x: u8) -> Stepped
         ensures { result ≡ answered_of op (done (dma_is (requested_of self.dma x) self)) }
     {
-        let d = self.dma;
-        let mut next = self;
-        next.dma = d.set_requests(x);
-        next.tell(op, 0, 0, [0u8; 12])
+        let next = Board {
+            dma: self.dma.set_requests(x),
+            ..self
+        };
+        next.tell(op, 0, 0, [0; 12])
     }
 
     // The slave's own lines; its INT may change, and line 7 with it.
     fn step_slave_intp(self, op: u8, x: u8) -> Stepped
         ensures { result ≡ answered_of op (done (followed self (slave_lines self x))) }
     {
-        let s = self.slave;
-        let mut next = self;
-        next.slave = s.lines(self.slaveintp, x);
-        next.slaveintp = x;
-        let seen = next.follow(self);
-        seen.tell(op, 0, 0, [0u8; 12])
+        let next = Board {
+            slave: self.slave.lines(self.slaveintp, x),
+            slaveintp: x,
+            ..self
+        };
+        next.follow(self).tell(op, 0, 0, [0; 12])
     }
 
     // Level 7 is taken and passed on: the slave gives the bytes, and line 7 follows.
     fn pass_on(self, op: u8) -> Stepped
         ensures { result ≡ answered_of op (slave_gives self) }
     {
-        let i = self.icu;
-        let s = self.slave;
-        let t = acknowledge(s, self.slaveintp);
-        let after = t.icu;
-        let mut next = self;
-        next.icu = i.serve(7, true);
-        next.slave = after;
-        let seen = next.follow(self);
-        seen.tell_turn(op, t)
+        let t = acknowledge(self.slave, self.slaveintp);
+        let next = Board {
+            icu: self.icu.serve(Some(7)),
+            slave: t.icu,
+            ..self
+        };
+        next.follow(self).tell_turn(op, t)
     }
 
     // An interrupt chip gives the vector or the CALL; status 3 where neither answers.
     fn step_acknowledge(self, op: u8) -> Stepped
         ensures { result ≡ answered_of op (acknowledge_of self) }
     {
-        let i = self.icu;
-        let s = self.slave;
         let lines = self.lines();
-        if cascade::is_passed_on(i, lines, s) {
+        if cascade::is_passed_on(self.icu, lines, self.slave) {
             return self.pass_on(op);
         }
-        if cascade::is_answered(i, s) {
-            let t = acknowledge(i, lines);
-            let after = t.icu;
-            let mut next = self;
-            next.icu = after;
-            return next.tell_turn(op, t);
+        if cascade::is_answered(self.icu, self.slave) {
+            let t = acknowledge(self.icu, lines);
+            return Board { icu: t.icu, ..self }.tell_turn(op, t);
         }
-        self.tell(op, 3, 0, [0u8; 12])
+        self.tell(op, 3, 0, [0; 12])
     }
 
     fn step_advance(self, op: u8, n: u32) -> Stepped
         ensures { result ≡ answered_of op (advance_of self n) }
     {
-        let i = self.icu;
-        let s = self.slave;
-        let t = self.timer;
-        let a = run_pulses(t, i, cascade::join(self.intp, s, self.slaveintp), n);
-        let rises = a.rises;
-        let icu = a.icu;
-        let timer = a.timer;
-        let mut next = self;
-        next.icu = icu;
-        next.timer = timer;
-        next.tell(op, 0, 0, rises_payload(rises))
+        let joined = cascade::join(self.intp, self.slave, self.slaveintp);
+        let a = run_pulses(self.timer, self.icu, joined, n);
+        let next = Board {
+            icu: a.icu,
+            timer: a.timer,
+            ..self
+        };
+        next.tell(op, 0, 0, rises_payload(a.rises))
     }
 
     fn step_cycle(self, op: u8, end: bool, x: u8, upper: u8, memory: &mut [u8]) -> Stepped
         ensures result { result ≡ answered_of op (cycle_of self end x upper memory.old) }
         ensures memory { memory.new ≡ cycle_memory self end x upper memory.old }
     {
-        let d = self.dma;
-        let c = d.cycle(end, x, upper, memory);
-        let report = c.report;
-        let after = c.dma;
-        let mut next = self;
-        next.dma = after;
-        next.tell(op, 0, byte_moved(report), payload(report))
+        let c = self.dma.cycle(end, x, upper, memory);
+        let next = Board { dma: c.dma, ..self };
+        next.tell(op, 0, byte_moved(c.report), payload(c.report))
     }
 
     fn execute(self, op: u8, o: Operation, memory: &mut [u8]) -> Stepped
@@ -651,36 +538,16 @@ impl Board {
         ensures memory { memory.new ≡ memory_after self o memory.old }
     {
         match o {
-            Operation::Reset => {
-                return self.step_reset(op);
-            }
-            Operation::Write(port, x) => {
-                return self.step_write(op, port, x);
-            }
-            Operation::Read(port) => {
-                return self.step_read(op, port);
-            }
-            Operation::Intp(x) => {
-                return self.step_intp(op, x);
-            }
-            Operation::Gates(x) => {
-                return self.step_gates(op, x);
-            }
-            Operation::Requests(x) => {
-                return self.step_requests(op, x);
-            }
-            Operation::SlaveIntp(x) => {
-                return self.step_slave_intp(op, x);
-            }
-            Operation::Acknowledge => {
-                return self.step_acknowledge(op);
-            }
-            Operation::Advance(n) => {
-                return self.step_advance(op, n);
-            }
-            Operation::Cycle(end, x, upper) => {
-                return self.step_cycle(op, end, x, upper, memory);
-            }
+            Operation::Reset => self.step_reset(op),
+            Operation::Write(port, x) => self.step_write(op, port, x),
+            Operation::Read(port) => self.step_read(op, port),
+            Operation::Intp(x) => self.step_intp(op, x),
+            Operation::Gates(x) => self.step_gates(op, x),
+            Operation::Requests(x) => self.step_requests(op, x),
+            Operation::SlaveIntp(x) => self.step_slave_intp(op, x),
+            Operation::Acknowledge => self.step_acknowledge(op),
+            Operation::Advance(n) => self.step_advance(op, n),
+            Operation::Cycle(end, x, upper) => self.step_cycle(op, end, x, upper, memory),
         }
     }
 
@@ -690,15 +557,13 @@ impl Board {
         ensures memory { memory.new ≡ step_memory self r memory.old }
     {
         let op = r[0];
-        let decoded = tape::decode(r);
         // not a record at all
-        let Decoded::Asked(o) = decoded else {
-            return self.tell(op, 2, 0, [0u8; 12]);
+        let Some(o) = tape::decode(r) else {
+            return self.tell(op, 2, 0, [0; 12]);
         };
         // the bus is with a DMA channel
-        let d = self.dma;
-        if is_blocked(d.serving, o) {
-            return self.tell(op, 1, 0, [0u8; 12]);
+        if is_blocked(self.dma.serving, o) {
+            return self.tell(op, 1, 0, [0; 12]);
         }
         self.execute(op, o, memory)
     }

@@ -2,39 +2,35 @@
 // together.
 #![tactic(auto)]
 
-use report::{STDERR, STDOUT};
+use report::{Exit, STDERR, STDOUT};
 
-fn tell_usage() -> u8 {
-    io::write_all(
-        STDERR,
-        b"usage: cards    prints all cards, which are the page docs/CARDS.md; one of them: ./run lesson card 2A\n",
-    );
-    report::USAGE
-}
-
-fn print_page() -> u8 {
-    if io::write_all(
-        STDOUT,
-        b"# The cards
+const HEAD: &[u8] = b"# The cards
 
 What each bit of a port means, a screen for each port or word of the chips. `./run lesson card 2A` prints one of them, `./run lesson card` the list:
 
 ```
-",
-    ) {
-        if ports::print_index() {
-            if ports::print_all() {
-                return report::WELL;
-            }
-        }
+";
+
+fn tell_usage() -> Exit {
+    io::write_all(
+        STDERR,
+        b"usage: cards    prints all cards, which are the page docs/CARDS.md; one of them: ./run lesson card 2A\n",
+    );
+    Exit::Usage
+}
+
+fn print_page() -> Exit {
+    if io::write_all(STDOUT, HEAD) && ports::print_index() && ports::print_all() {
+        Exit::Well
+    } else {
+        report::fail_output(b"cards: standard output")
     }
-    report::fail_output(b"cards: standard output")
 }
 
 fn main(rt: HostRuntime) {
     if 1 < report::arg_count(&rt) {
         report::end(tell_usage());
-        return;
+    } else {
+        report::end(print_page());
     }
-    report::end(print_page());
 }

@@ -1,495 +1,382 @@
 // A lesson under way, or lines as they are typed: what is to be done next, and what is told of it. The board is elsewhere; its chips are shown to the desk before and after each
-// record, and its memory is lent to it.
+// record, and its memory is the desk's.
 #![tactic(auto)]
 
-use notation::line::Parsed;
-use reader::lines::Lines;
+use notation::check::{Check, Expected};
+use notation::line;
+use notation::line::{Parsed, What};
+use notation::record::RecordLine;
+use notation::word::Span;
+use reader::lines::{End, Lines};
+use reader::memory::Memory;
+use reader::output::Stop;
 use reader::source::Source;
 use reader::tally::Tally;
-use reader::{comments, expected, filters, lines, memory, output, pieces, usage};
-use sentences::bytes::{Answer, Record};
-use sentences::text;
+use reader::usage::Mode;
+use reader::{comments, expected, filters, output, pieces};
+use sentences::bytes::{Answer, Op, Record};
 use sentences::text::Text;
+use sentences::{Message, text};
 use words::chips::{Chips, Manner};
 use words::{chips, happened, shown};
 
-// What is due: nothing; on the board, the record that is next or a reset with which all begins anew; in the memory, a line that sets it or one that expects something of it.
-pub const NOTHING: u8 = 0;
+// What is due on the board.
+#[derive(Clone, Copy, PartialEq, Eq)]
+pub enum Due {
+    Record([u8; 8]),
+    // all begins anew
+    Reset,
+    Nothing,
+}
 
-pub const RECORD: u8 = 1;
-
-pub const RESET: u8 = 2;
-
-const PUT: u8 = 3;
-
-const COMPARE: u8 = 4;
-
+// The records of the last line: each time that it is run one, or one for each character of its text.
 #[derive(Clone, Copy)]
-pub struct Desk {
+struct Records {
+    said: RecordLine,
+    // the next one's place in the text, and how often the line is still to be run
+    place: usize,
+    left: u32,
+}
+
+impl Records {
+    const NONE: Records = Records {
+        said: RecordLine {
+            bytes: [0; 8],
+            times: 0,
+            text: Span::NONE,
+            check: Check::Unchecked,
+        },
+        place: 0,
+        left: 0,
+    };
+
+    fn next(&self, line: &[u8]) -> Record {
+        filters::record_of(line, &self.said, self.place)
+    }
+
+    // The next one is the one after that: of the text, or the first one once more.
+    fn pass(&mut self, line: &[u8]) {
+        self.place = self.place.saturating_add(1);
+        if filters::count_records(line, &self.said) <= self.place {
+            self.place = 0;
+            self.left = self.left.saturating_sub(1);
+        }
+    }
+}
+
+#[derive(Drop)]
+pub struct Desk<'a> {
     // what is done with the lesson, and whether a guess is still asked for somewhere: then rows say no more than the answers
-    mode: u8,
+    mode: Mode,
     plain: bool,
-    // the text, and its last line; while its records are run no other is read
-    lines: Lines,
-    parsed: Parsed,
+    // the text, and the records of its last line; while these are run no other line is read
+    lines: Lines<'a>,
+    records: Records,
     pulses: u64,
     tally: Tally,
-    // what the last line with a record or a check expects, by its bits that are meant, and whether that failed
-    expected: [u8; 16],
-    mask: [u8; 16],
+    // what the last line with a record or a check expects, and whether that failed
+    expected: Expected,
     wrong: bool,
-    // of its records the next one, by its place in a text, and how often the line is still to be run
-    at: usize,
-    left: u32,
-    // its last row without digits, and the rows like it that were not shown
+    // the last row of the line without digits, and the rows like it that were not shown
     last: Text,
     like: u64,
     // it has charts, each with a memory of its own
     charts: bool,
-    // a card that is not there was asked for
+    // a card that is not there was asked for, or the text could not be read
     missed: bool,
-    written: bool,
-    pub due: u8,
+    memory: Memory,
 }
 
-impl Desk {
-    pub fn start(mode: u8, plain: bool) -> Desk {
+impl<'a> Desk<'a> {
+    pub fn start(mode: Mode, plain: bool, source: &'a Source, path: &'a [u8]) -> Desk<'a> {
+        // A lesson was checked: a bad line is there only if the file changed since. What is typed may be bad, and typed anew.
+        let lines = match mode {
+            Mode::Try => Lines::start(source, path, true, u64::MAX),
+            _ => Lines::start(source, path, false, 1),
+        };
         Desk {
-            mode: mode,
-            plain: plain,
-            lines: first_line(mode),
-            parsed: Parsed::new(Parsed::EMPTY, 0),
+            mode,
+            plain,
+            lines,
+            records: Records::NONE,
             pulses: 0,
-            tally: Tally::start(),
-            expected: [0u8; 16],
-            mask: [0u8; 16],
+            tally: Tally::default(),
+            expected: Expected::NONE,
             wrong: false,
-            at: 0,
-            left: 0,
             last: Text::new(),
             like: 0,
             charts: false,
             missed: false,
-            written: true,
-            due: NOTHING,
+            memory: Memory::new(),
         }
     }
+}
 
-    // Whether there may be more to do.
-    pub fn goes_on(self) -> bool {
-        self.written & self.lines.more
+impl Desk<'_> {
+    // What is lent to the board.
+    pub fn memory(&mut self) -> &mut [u8] {
+        let lent = self.lines.place.lent;
+        self.memory.lent(lent)
     }
 
-    // The length of the memory.
-    pub fn lent(self) -> u32 {
-        self.lines.place.lent
-    }
-
-    pub fn record(self, line: &[u8; 1000]) -> [u8; 8] {
-        filters::record_of(line, self.parsed, self.at).bytes()
-    }
-
-    // What is due: the next record of the line under way, or what the next line asks for. What of it is not the board's is done.
-    pub fn take(
-        self,
-        chips: Chips,
-        source: &Source,
-        path: &[u8],
-        line: &mut [u8; 1000],
-        lump: &mut [u8; 65536],
-        memory: &mut [u8; 65536],
-        marks: &mut [u8; 65536],
-    ) -> Desk {
-        let mut next = self;
-        if 0 < self.left {
-            next.due = RECORD;
-            return next;
+    // What is due: the next record of the line under way, or what the next line asks for; none where the text has ended. What of it is not the board's is done.
+    pub fn take(&mut self, chips: Chips) -> Result<Option<Due>, Stop> {
+        if 0 < self.records.left {
+            let record = self.records.next(self.lines.line());
+            return Ok(Some(Due::Record(record.into())));
         }
-        let t = lines::take(source, path, line, lump, self.lines);
-        let lines = t.lines;
-        let p = t.parsed;
-        next.lines = lines;
-        next.parsed = p;
-        next.due = NOTHING;
-        if !lines.more {
-            return next;
-        }
-        next.take_line(chips, line)
-            .use_memory(chips.levels(), line, memory, marks)
-    }
-
-    // What is due in the memory; all begins anew with zeros, and with no byte marked as written.
-    fn use_memory(
-        self,
-        levels: u8,
-        line: &[u8; 1000],
-        memory: &mut [u8; 65536],
-        marks: &mut [u8; 65536],
-    ) -> Desk {
-        let due = self.due;
-        match due {
-            PUT => {
-                memory::put(
-                    line,
-                    notation::line::without_return(line, self.lines.held),
-                    self.parsed,
-                    memory,
-                );
-                self
+        match self.lines.take() {
+            Ok(parsed) => Ok(Some(self.take_line(chips, &parsed)?)),
+            Err(end) => {
+                self.missed |= end == End::Failed;
+                Ok(None)
             }
-            COMPARE => self.compare(levels, line, memory),
-            RESET => {
-                memory::clear(memory);
-                memory::clear(marks);
-                self
-            }
-            _ => self,
         }
     }
 
-    fn take_line(self, chips: Chips, line: &[u8; 1000]) -> Desk {
-        let p = self.parsed;
-        if p.check == Parsed::ASKED {
-            return self.ask(chips, filters::record_of(line, p, p.from));
+    fn take_line(&mut self, chips: Chips, parsed: &Parsed) -> Result<Due, Stop> {
+        if let What::Record(said) = parsed.what
+            && said.check == Check::Asked
+        {
+            self.ask(chips, &said)?;
+            return Ok(Due::Nothing);
         }
         if 0 < self.tally.questions {
-            return self;
+            return Ok(Due::Nothing);
         }
-        let next = self.comment(line, p);
-        if !next.written {
-            return next;
+        let line = line::without_return(self.lines.line());
+        // in a listing the comments of the lesson are printed
+        if self.mode == Mode::Listing {
+            output::written(comments::print(line, parsed))?;
         }
-        next.take_words(chips, expected::quoted(line, p))
-    }
-
-    // In a listing the comments of the lesson are printed.
-    fn comment(self, line: &[u8; 1000], p: Parsed) -> Desk {
-        let mut next = self;
-        if self.mode == usage::LISTING {
-            next.written = comments::print(
-                line,
-                notation::line::without_return(line, self.lines.held),
-                p,
-            );
-        }
-        next
+        let said = Text::new().say(parsed.quoted().of(line));
+        self.take_words(chips, parsed.what, said)
     }
 
     // A line, with the words of it that are told.
-    fn take_words(self, chips: Chips, said: Text) -> Desk {
-        let p = self.parsed;
-        let kind = p.kind;
-        let levels = chips.levels();
-        let mut next = self;
-        match kind {
-            Parsed::RECORD => self.begin(p),
-            Parsed::MEMORY => {
-                next.due = PUT;
-                next
+    fn take_words(&mut self, chips: Chips, what: What, said: Text) -> Result<Due, Stop> {
+        match what {
+            What::Empty | What::Lend(_) => {}
+            What::Record(record) => self.begin(record),
+            What::Memory(bytes) => self
+                .memory
+                .put(line::without_return(self.lines.line()), &bytes),
+            What::ExpectMemory(bytes) => {
+                let line = line::without_return(self.lines.line());
+                let found = expected::first_apart(line, &bytes, &self.memory);
+                self.tell_check(said, Expected::NONE, found, chips.levels())?;
             }
-            Parsed::EXPECT_MEMORY => {
-                next.due = COMPARE;
-                next
+            What::Expect(expected) => {
+                let levels = chips.levels();
+                let answer = [0, 0, 0, levels, 0, 0, 0, 0, 0, 0, 0, 0, 0, 0, 0, 0];
+                let found = if expected::is_wrong(answer, &expected) {
+                    Some(expected::levels_words(levels))
+                } else {
+                    None
+                };
+                self.tell_check(said, expected, found, levels)?;
             }
-            Parsed::EXPECT => self.expect_levels(levels, said),
-            Parsed::CHART => self.begin_anew(true, Text::new().say(b"chart ").and(said)),
-            Parsed::AGAIN => self.begin_anew(false, sentences::message(0x2c, 0, 0)),
-            _ => self.print_other(chips, said),
+            What::Chart(_) => {
+                self.charts = true;
+                return self.begin_anew(Text::new().say(b"chart ").and(said));
+            }
+            What::Again => return self.begin_anew(Message::FromReset.text()),
+            What::Show(chip) => output::written(shown::print(chips, chip))?,
+            // what is said to a guess, if the check above was just that and failed
+            What::Guess(guess) => {
+                if self.wrong && self.expected.is_same(&guess.expected) {
+                    output::written(text::print_below(said))?;
+                }
+            }
+            What::Card(_) => match comments::print_card(said.as_bytes()) {
+                Err(Stop::Text) => self.missed = true,
+                printed => printed?,
+            },
         }
+        Ok(Due::Nothing)
     }
 
     // The records of a line; the first row is like no other.
-    fn begin(self, p: Parsed) -> Desk {
-        let meant = expected::meant(p, self.lines.place.chart);
-        let mut next = self.with_check(meant);
-        next.parsed = meant;
-        next.at = p.from;
-        next.left = p.times;
-        next.last = Text::new();
-        next
+    fn begin(&mut self, said: RecordLine) {
+        let said = said.meant(self.lines.place.chart);
+        self.expected = said.expected();
+        self.records = Records {
+            said,
+            place: 0,
+            left: said.times,
+        };
+        self.last = Text::new();
     }
 
-    fn with_check(mut self, p: Parsed) -> Desk {
-        let expected = p.expected;
-        let mask = p.mask;
-        self.expected = expected;
-        self.mask = mask;
-        self
-    }
-
-    // From reset, over zero bytes; a text says so.
-    fn begin_anew(self, chart: bool, said: Text) -> Desk {
-        let mut next = self;
-        next.expected = [0u8; 16];
-        next.mask = [0u8; 16];
-        next.charts = self.charts | chart;
-        next.pulses = 0;
-        next.written = said.print_line();
-        next.due = RESET;
-        next
+    // From reset, over zero bytes, none of them marked as written; a text says so.
+    fn begin_anew(&mut self, said: Text) -> Result<Due, Stop> {
+        output::written(said.print_line())?;
+        self.expected = Expected::NONE;
+        self.pulses = 0;
+        self.memory.clear();
+        Ok(Due::Reset)
     }
 
     // A guess is asked for: its row has a question mark, and nothing more is run. The others after it are named.
-    fn ask(self, chips: Chips, r: Record) -> Desk {
-        let t = self.tally;
-        let mut next = self;
-        next.tally = t.with_question();
-        if 0 < t.questions {
-            next.written = Text::new()
-                .number(self.lines.line, 5)
+    fn ask(&mut self, chips: Chips, said: &RecordLine) -> Result<(), Stop> {
+        let number = self.lines.number;
+        let is_first = self.tally.questions == 0;
+        self.tally.count_question();
+        if !is_first {
+            let row = Text::new()
+                .number(number, 5)
                 .pad(41)
-                .say(b"? still to be filled in")
-                .print_line();
-            return next;
+                .say(b"? still to be filled in");
+            return output::written(row.print_line());
         }
-        next.written = text::print_row(
-            text::left(self.lines.line, self.pulses),
-            chips::asked(chips, r, 0, true),
+        let record = filters::record_of(self.lines.line(), said, 0);
+        output::written(text::print_row(
+            text::left(number, self.pulses),
+            chips::asked(chips, record, 0, true),
             Text::new().say(b"? put your guess in its place"),
-            text::NO_LEVELS,
-        );
-        next
+            None,
+        ))
     }
 
-    // Levels that are expected now.
-    fn expect_levels(self, levels: u8, said: Text) -> Desk {
-        let p = self.parsed;
-        let a = [0, 0, 0, levels, 0, 0, 0, 0, 0, 0, 0, 0, 0, 0, 0, 0];
-        self.tell_check(
-            said,
-            expected::is_wrong(a, p),
-            expected::levels_words(levels),
-            levels,
-        )
-    }
-
-    // Memory that is expected now.
-    fn compare(self, levels: u8, line: &[u8; 1000], memory: &[u8; 65536]) -> Desk {
-        let p = self.parsed;
-        let k = expected::first_apart(
-            line,
-            notation::line::without_return(line, self.lines.held),
-            p,
-            memory,
-        ) % 65536;
-        let found = expected::found(p.number % 65536 + k, memory);
-        self.tell_check(expected::quoted(line, p), k < p.length, found, levels)
-    }
-
-    // A line with a check that is no record: its own words, and whether it is so.
-    fn tell_check(self, said: Text, wrong: bool, found: Text, levels: u8) -> Desk {
-        let t = self.tally;
-        let p = self.parsed;
-        let mut next = self.with_check(p);
-        next.tally = t.with_check(wrong);
-        next.wrong = wrong;
-        let answer = match wrong {
-            true => Text::new().say(b"not so: ").and(found),
-            false => Text::new().say(b"as expected"),
+    // A line with a check that is no record: its own words, and whether it is so, or what was found in its place.
+    fn tell_check(
+        &mut self,
+        said: Text,
+        expected: Expected,
+        found: Option<Text>,
+        levels: u8,
+    ) -> Result<(), Stop> {
+        self.expected = expected;
+        self.wrong = found.is_some();
+        self.tally.count_check(self.wrong);
+        let answer = match found {
+            Some(found) => Text::new().say(b"not so: ").and(found),
+            None => Text::new().say(b"as expected"),
         };
-        next.written = text::print_row(
-            text::left(self.lines.line, self.pulses),
+        output::written(text::print_row(
+            text::left(self.lines.number, self.pulses),
             Text::new().say(b"expect ").and(said),
             answer,
-            levels,
-        );
-        next
-    }
-
-    // A line that is only printed for.
-    fn print_other(self, chips: Chips, said: Text) -> Desk {
-        let p = self.parsed;
-        let kind = p.kind;
-        let mut next = self;
-        match kind {
-            Parsed::SHOW => {
-                next.written = shown::print(chips, p.number);
-                next
-            }
-            Parsed::GUESS => {
-                let expected = self.expected;
-                let mask = self.mask;
-                next.written = expected::answer_guess(self.wrong, expected, mask, p, said);
-                next
-            }
-            Parsed::CARD => {
-                let found = comments::print_card_of(said);
-                next.missed = self.missed | (found == 1);
-                next.written = found < 2;
-                next
-            }
-            _ => next,
-        }
+            Some(levels),
+        ))
     }
 
     // The record that was due is done: what is counted of it, what is marked as written, and its row.
-    pub fn tell(
-        self,
+    pub fn tell(&mut self, before: Chips, after: Chips, bytes: [u8; 16]) -> Result<(), Stop> {
+        let lent = self.lines.place.lent;
+        let answer = Answer::from(bytes);
+        if let Some(unit) = chips::unit_of(before.dma, answer, lent) {
+            self.memory.mark(unit.address, unit.written, lent);
+            self.tally.count_lost(unit.way, unit.lost);
+        }
+        let record = self.records.next(self.lines.line());
+        self.records.pass(self.lines.line());
+        let said = self.records.said;
+        let expected = said.expected();
+        self.wrong = expected::is_wrong(bytes, &expected);
+        let is_checked = matches!(said.check, Check::Said(_));
+        self.tally
+            .count_record(answer.status != 0, is_checked, self.wrong);
+        self.pulses = self
+            .pulses
+            .saturating_add(u64::from(pulses_of(record, answer.status)));
+        if self.mode == Mode::Pieces {
+            return output::written(pieces::print_pieces(self.lines.number, record, answer));
+        }
+        self.tell_record(before, after, record, answer)
+    }
+
+    // The row of a record, or in a repeat one more that is like the last one. After the last record of a line, the rows that were not shown are counted.
+    fn tell_record(
+        &mut self,
         before: Chips,
         after: Chips,
-        bytes: [u8; 16],
-        line: &[u8; 1000],
-        marks: &mut [u8; 65536],
-    ) -> Desk {
-        let lent = self.lent();
-        let a = Answer::of(bytes);
-        let unit = chips::unit_of(before.dma, a, lent);
-        memory::mark(marks, unit.address, unit.written, lent);
-        let p = self.parsed;
-        let r = filters::record_of(line, p, self.at);
-        let wrong = expected::is_wrong(bytes, p);
-        let t = self.tally;
-        let status = a.status;
-        let mut next = self.after_record();
-        next.tally = t
-            .with_record(status, p.check, wrong)
-            .with_lost(unit.way, unit.lost);
-        next.wrong = wrong;
-        next.pulses = self.pulses % 9223372036854775808 + pulses_of(r, status) as u64;
-        if self.mode == usage::PIECES {
-            next.written = pieces::print_pieces(self.lines.line, r, a);
-            return next;
+        record: Record,
+        answer: Answer,
+    ) -> Result<(), Stop> {
+        let levels = answer.levels;
+        let asked = chips::asked(before, record, answer.status, self.plain);
+        let told = self.answer_words(before, after, record, answer);
+        let shape = shape_of(asked, told, answer);
+        if self.records.said.times != 1 && shape == self.last {
+            self.like = self.like.saturating_add(1);
+        } else {
+            self.tell_like()?;
+            output::written(text::print_row(
+                text::left(self.lines.number, self.pulses),
+                asked,
+                told,
+                Some(levels),
+            ))?;
         }
-        next.tell_record(before, after, r, a, expected::words(line, p, wrong))
+        self.last = shape;
+        if self.records.left == 0 {
+            self.tell_like()?;
+        }
+        Ok(())
     }
 
-    // The next record of the line: of its text, or from the first one once more.
-    fn after_record(self) -> Desk {
-        let p = self.parsed;
-        let mut next = self;
-        let at = self.at % 1000 + 1;
-        next.at = at;
-        if p.to <= at {
-            next.at = p.from;
-            next.left = one_fewer(self.left);
-        }
-        next
-    }
-
-    // The row of a record, or in a repeat one more that is like the last one.
-    fn tell_record(self, before: Chips, after: Chips, r: Record, a: Answer, other: Text) -> Desk {
-        let p = self.parsed;
-        let levels = a.levels;
+    // What happened, and where that is not what was expected, what was.
+    fn answer_words(&self, before: Chips, after: Chips, record: Record, answer: Answer) -> Text {
         let manner = Manner {
             plain: self.plain,
             other: self.wrong,
             lent: self.lines.place.lent,
-            open: open_to(r.port),
+            writable: tape::is_writable(record.port),
+            readable: tape::is_readable(record.port),
         };
-        let asked = chips::asked(before, r, a.status, self.plain);
-        let answer = other
-            .and(happened::words(before, after, r, a, manner))
-            .and(expected::levels_now(self.wrong, p, levels));
-        let shape = shape_of(asked, answer, levels, byte_read(a.op, a.byte, a.channel));
-        let mut next = self;
-        next.last = shape;
-        if (p.times != 1) & shape.is_same(self.last) {
-            next.like = text::more(self.like);
-            return next.end_line();
+        let happened = happened::words(before, after, record, answer, manner);
+        if !self.wrong {
+            return happened;
         }
-        next.like = 0;
-        next.written = tell_like(self.like)
-            && text::print_row(
-                text::left(self.lines.line, self.pulses),
-                asked,
-                answer,
-                levels,
-            );
-        next.end_line()
+        let expected = self.records.said.expected();
+        expected::words(self.lines.line(), &expected)
+            .and(happened)
+            .and(expected::levels_now(&expected, answer.levels))
     }
 
-    // After the last record of a line, the rows that were not shown are counted.
-    fn end_line(self) -> Desk {
-        let mut next = self;
-        if self.left == 0 {
-            next.like = 0;
-            next.written = self.written && tell_like(self.like);
+    // The rows that were not shown.
+    fn tell_like(&mut self) -> Result<(), Stop> {
+        let like = self.like;
+        self.like = 0;
+        output::written(like == 0 || text::print_below(Message::RowsAlike(like).text()))
+    }
+
+    // What stands below a lesson: the counts, and the memory. All went well only if every check held, none was left open, and no line was bad.
+    pub fn end(&self) -> Result<(), Stop> {
+        output::written(self.tally.print() && (self.charts || self.memory.print()))?;
+        if self.tally.is_well() && !self.missed && self.lines.bad == 0 {
+            Ok(())
+        } else {
+            Err(Stop::Text)
         }
-        next
     }
-
-    // What stands below a lesson: the counts, and the memory. Answers how the program would end.
-    pub fn end(self, memory: &[u8; 65536], marks: &[u8; 65536]) -> u8 {
-        let t = self.tally;
-        if self.written && t.print() && print_memory(self.charts, memory, marks) {
-            return self.status();
-        }
-        output::fail()
-    }
-
-    // All went well only if every check held, none was left open, and no line was bad.
-    fn status(self) -> u8 {
-        let t = self.tally;
-        let l = self.lines;
-        if t.is_well() & !self.missed & !l.failed & (l.bad == 0) {
-            return report::WELL;
-        }
-        report::FAILED
-    }
-}
-
-// The rows that were not shown.
-fn tell_like(like: u64) -> bool {
-    if like == 0 {
-        return true;
-    }
-    text::print_below(sentences::message(0x2b, like, 0))
-}
-
-// A lesson was checked: a bad line is there only if the file changed since. What is typed may be bad, and typed anew.
-fn first_line(mode: u8) -> Lines {
-    if mode == usage::TRY {
-        return Lines::start(true, u64::MAX);
-    }
-    Lines::start(false, 1)
 }
 
 // The pulses of a record: those of an advance that was done.
-fn pulses_of(r: Record, status: u8) -> u32 {
-    let op = r.op;
-    match status {
-        0 => match op {
-            5 => r.pulses() % 65536,
-            _ => 0,
-        },
-        _ => 0,
-    }
-}
-
-// What a port is open to: bit 0 writes, bit 1 reads.
-fn open_to(port: u8) -> u8 {
-    tape::is_writable(port) as u8 | (tape::is_readable(port) as u8) << 1
-}
-
-// What a read gave, or an acknowledge: a vector, or the low byte of a CALL. Rows of others are alike where their bytes are not.
-fn byte_read(op: u8, byte: u8, low: u8) -> u8 {
-    match op {
-        2 => byte,
-        4 => byte | low,
+fn pulses_of(record: Record, status: u8) -> u32 {
+    match record.operation() {
+        Some(Op::Advance) if status == 0 => record.pulses,
         _ => 0,
     }
 }
 
 // What a row is but for its numbers, with its levels and the byte that it read, as letters.
-fn shape_of(asked: Text, answer: Text, levels: u8, byte: u8) -> Text {
+fn shape_of(asked: Text, told: Text, answer: Answer) -> Text {
+    let byte = byte_read(answer);
     asked
         .shape()
-        .and(answer.shape())
-        .put(b'a' + levels % 16)
+        .and(told.shape())
+        .put(b'a' + answer.levels % 16)
         .put(b'a' + byte / 16)
         .put(b'a' + byte % 16)
 }
 
-fn one_fewer(n: u32) -> u32 {
-    match n {
-        0 => 0,
-        _ => n - 1,
+// What a read gave, or an acknowledge: a vector, or the low byte of a CALL. Rows of others are alike where their bytes are not.
+fn byte_read(answer: Answer) -> u8 {
+    match answer.operation() {
+        Some(Op::Read) => answer.byte,
+        Some(Op::Acknowledge) => answer.byte | answer.channel,
+        _ => 0,
     }
-}
-
-fn print_memory(charts: bool, memory: &[u8; 65536], marks: &[u8; 65536]) -> bool {
-    if charts {
-        return true;
-    }
-    memory::print(memory, marks)
 }

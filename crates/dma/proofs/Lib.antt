@@ -1,7 +1,5 @@
-pub mod Inside
-pub mod Lists
 pub mod Looks
-pub mod Numbers
 pub mod Plain
 pub mod Ranks
+pub mod Refusals
 pub mod Units

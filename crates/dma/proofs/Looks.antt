@@ -5,8 +5,7 @@ use Prim.Native.Nat.{ℕ, ◌%◌}
 use lib.Dec.{eqb, leb, ltb}
 use Rattle.std.specs.Prelude.{if◌then◌else◌}
 use Rattle.dma.specs.declared.Dma.{Dma}
-use Rattle.dma.specs.declared.Got.{Got}
-use Rattle.dma.specs.declared.Seen.{Seen}
+use Rattle.dma.specs.Answers.{Got, Seen}
 use Rattle.dma.specs.Fields.{turned}
 use Rattle.dma.specs.Registers.{shows, unread, read_of, seen_as, seen_of}
 

@@ -24,3 +24,7 @@ module _ (d : Dma) (k : ℕ) (h : k < 4) where
   pub miss : ready d (channel_at d k) ≡ false → winner_from d k (4 - k) ≡ winner_from d (k + 1) (4 - (k + 1))
   unfolding winner_from
   miss e = rw (left, e) (ap (λ (m : ℕ). winner_from d m (4 - (k + 1))) (sym (add-one k)))
+
+pub in_ranks : (d : Dma) (k : ℕ) → channel_at d k < 4
+unfolding channel_at
+in_ranks d k = omega arith

@@ -1,4 +1,5 @@
 pub mod Fields
+pub mod Answers
 pub mod Registers
 pub mod Report
 pub mod Cycle

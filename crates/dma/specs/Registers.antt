@@ -6,9 +6,7 @@ use Rattle.bits.specs.Bits.{bit_of, with_of, masked_of, weighed}
 use Rattle.dma.specs.declared.Span.{Span}
 use Rattle.dma.specs.declared.Channel.{Channel}
 use Rattle.dma.specs.declared.Dma.{Dma}
-use Rattle.dma.specs.declared.Written.{Written}
-use Rattle.dma.specs.declared.Got.{Got}
-use Rattle.dma.specs.declared.Seen.{Seen}
+use Rattle.dma.specs.Answers.{Written, Got, Seen}
 use Rattle.dma.specs.Fields.{span, current_is, base_is, mode_is, masked_is, chan, selected, word, channels_are, wide_is, selection_is, control_is, requests_are, turned}
 
 -- Reset: every channel masked, an 8-bit bus, all else zero.

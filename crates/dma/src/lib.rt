@@ -2,22 +2,23 @@
 // Not modelled: memory to memory, software requests, cascade, bus timing.
 #![tactic(auto)]
 
-ghost use Rattle.std.specs.Prelude.{◌≡◌, Bool, not, [], ◌+◌, ◌≤◌, ◌<◌, ltb, set, length, if◌then◌else◌};
-ghost use Rattle.dma.specs.Fields.{chan, channels_are};
-ghost use Rattle.dma.specs.Registers.{reset_of, requested_of, taken, refused, any_words, initialized_of, selected_of, replaced_of, loaded_of, kept_first, controlled_of, held_zero, unbuilt_mode, refuses_mode, moded_of, masked_by, write_of, shows, unread, seen_as, byte_at, shown_span, masks_of, read_of, seen_of};
+ghost use Rattle.std.specs.Prelude.{◌≡◌, not, min, [], ◌+◌, ◌<◌, Ok, length, set, MatchOption};
+ghost use Rattle.dma.specs.Fields.{chan, channels_are, word};
+ghost use Rattle.dma.specs.Answers.{status_of, written_as, got_as, shown_as};
+ghost use Rattle.dma.specs.Registers.{reset_of, requested_of, taken, any_words, initialized_of, selected_of, replaced_of, loaded_of, kept_first, controlled_of, held_zero, unbuilt_mode, refuses_mode, moded_of, masked_by, write_of, byte_at, shown_span, masks_of, read_of, seen_of};
 ghost use Rattle.dma.specs.Report.{told, nothing};
-ghost use Rattle.dma.specs.Cycle.{ready, channel_at, winner, granted_of, first_after, releases, released_of, in_memory, peek_of, poke_of, size_of, start_of, carried, carried_of, memory_of, stepped, next, last_of, stops_of, moved_of, ends_after, settled_of, unit_of, cycle_of, plain_of};
+ghost use Rattle.dma.specs.Cycle.{demand, ready, channel_at, winner, granted_of, first_after, releases, released_of, in_memory, peek_of, poke_of, size_of, carried, carried_of, memory_of, stepped, next, last_of, stops_of, moved_of, ends_after, settled_of, unit_of, cycle_of, plain_of};
 
 // Where a transfer stands, or starts: an address of 24 bits, and the units still to come, less one.
 #[repr(C)]
-#[derive(Clone, Copy)]
+#[derive(Clone, Copy, PartialEq, Eq)]
 pub struct Span {
     pub address: u32,
     pub count: u16,
 }
 
 #[repr(C)]
-#[derive(Clone, Copy)]
+#[derive(Clone, Copy, PartialEq, Eq)]
 pub struct Channel {
     pub current: Span,
     pub base: Span,
@@ -27,7 +28,7 @@ pub struct Channel {
 }
 
 #[repr(C)]
-#[derive(Clone, Copy)]
+#[derive(Clone, Copy, PartialEq, Eq)]
 pub struct Dma {
     pub channels: [Channel; 4],
     // 16B: the data bus has 16 bits
@@ -47,47 +48,30 @@ pub struct Dma {
     pub ends: u8,
 }
 
-// What a write answers: 0, 2 where the register is not there to write, 4 where it is not built.
-#[derive(Clone, Copy)]
-pub struct Written {
-    pub status: u8,
-    pub dma: Dma,
+// Why a register is not written, or not shown.
+#[derive(Clone, Copy, PartialEq, Eq)]
+pub enum Refusal {
+    // there is no such register to write, or to read
+    NotThere,
+    // it asks for what is not built, or for words on the 8-bit bus
+    NotBuilt,
 }
 
-impl Written {
-    // A write that is done.
-    fn taken(dma: Dma) -> Written
-        ensures { result ≡ taken dma }
+impl Refusal {
+    // Its status number.
+    pub fn status(self) -> u8
+        ensures { result ≡ status_of self }
     {
-        Written {
-            status: 0,
-            dma: dma,
-        }
-    }
-
-    // A write that changes nothing.
-    fn refused(status: u8, dma: Dma) -> Written
-        ensures { result ≡ refused status dma }
-    {
-        Written {
-            status: status,
-            dma: dma,
+        match self {
+            Refusal::NotThere => 2,
+            Refusal::NotBuilt => 4,
         }
     }
 }
 
-// What a read answers, with the same statuses.
+// What a read shows: its byte, and the end bits after it, which are all that it may change of the chip.
 #[derive(Clone, Copy)]
-pub struct Got {
-    pub status: u8,
-    pub byte: u8,
-    pub dma: Dma,
-}
-
-// The same without the chip, of which a read changes the end bits at the most: they stand here as they are after it.
-#[derive(Clone, Copy)]
-pub struct Seen {
-    pub status: u8,
+pub struct Shown {
     pub byte: u8,
     pub ends: u8,
 }
@@ -105,9 +89,9 @@ impl Carried {
         ensures { result ≡ carried byte upper outside }
     {
         Carried {
-            byte: byte,
-            upper: upper,
-            outside: outside,
+            byte,
+            upper,
+            outside,
         }
     }
 }
@@ -139,30 +123,11 @@ pub struct Cycle {
     pub report: Report,
 }
 
-// A byte as part of an address.
-fn wide(b: u8) -> u32
-    ensures value { result ≡ b }
-    ensures upper_bound { result < 256 }
-{
-    b as u32
-}
-
-// A byte as part of a count.
-fn wide_count(b: u8) -> u16
-    ensures value { result ≡ b }
-    ensures upper_bound { result < 256 }
-{
-    b as u16
-}
-
 // How many bytes of the memory have an address.
 fn room(memory: &[u8]) -> usize
-    ensures { result ≡ (if ltb (length memory.now) 16777216 then length memory.now else 16777216) }
+    ensures { result ≡ min (length memory.now) 16777216 }
 {
-    if memory.len() < 16777216 {
-        return memory.len();
-    }
-    16777216
+    memory.len().min(16777216)
 }
 
 // Whether the memory has a byte at an address, and the address space too.
@@ -223,186 +188,146 @@ fn poke_word(memory: &mut [u8], at: u32, b: u8, upper: u8) -> Carried
     Carried::new(lower.byte, upper, true)
 }
 
-// How many bytes a unit has.
-fn size(word: bool) -> u32
-    ensures value { result ≡ size_of word }
-    ensures upper_bound { result ≤ 2 }
-{
-    if word {
-        return 2;
-    }
-    1
-}
-
 // The address of the next unit, modulo 2^24.
 fn next_address(a: u32, falls: bool, word: bool) -> u32
     ensures { result ≡ stepped a falls (size_of word) }
 {
-    let by = size(word);
+    let size = if word { 2 } else { 1 };
     if falls {
-        return (a % Dma::SPACE + Dma::SPACE - by) % Dma::SPACE;
+        (a % Dma::SPACE + Dma::SPACE - size) % Dma::SPACE
+    } else {
+        (a % Dma::SPACE + size) % Dma::SPACE
     }
-    (a % Dma::SPACE + by) % Dma::SPACE
 }
 
 impl Span {
     // A byte written to register 2 to 6 replaces that byte alone.
-    fn replace(self, register: u8, x: u8) -> Span
+    #[tactic(auto, unfolding(crate::specs::Registers::replaced_of))]
+    fn replace(mut self, register: u8, x: u8) -> Span
         ensures { result ≡ replaced_of register x self }
     {
-        let mut next = self;
-        if register == Dma::COUNT {
-            next.count = self.count / 256 * 256 + wide_count(x);
-            return next;
+        let [low, high] = self.count.to_le_bytes();
+        let [a0, a1, a2, a3] = self.address.to_le_bytes();
+        match register {
+            Dma::COUNT => self.count = u16::from_le_bytes([x, high]),
+            Dma::COUNT_HIGH => self.count = u16::from_le_bytes([low, x]),
+            Dma::ADDRESS => self.address = u32::from_le_bytes([x, a1, a2, a3]),
+            Dma::ADDRESS_MIDDLE => self.address = u32::from_le_bytes([a0, x, a2, a3]),
+            _ => self.address = u32::from_le_bytes([a0, a1, x, a3]),
         }
-        if register == Dma::COUNT_HIGH {
-            next.count = wide_count(x) * 256 + self.count % 256;
-            return next;
-        }
-        if register == Dma::ADDRESS {
-            next.address = self.address / 256 * 256 + wide(x);
-            return next;
-        }
-        if register == Dma::ADDRESS_MIDDLE {
-            next.address = self.address / 65536 * 65536 + wide(x) * 256 + self.address % 256;
-            return next;
-        }
-        next.address = self.address / Dma::SPACE * Dma::SPACE
-            + wide(x) * 65536
-            + self.address % 65536;
-        next
+        self
     }
 
     // The byte that register 2 to 6 shows.
+    #[tactic(auto, unfolding(crate::specs::Registers::byte_at))]
     fn show(self, register: u8) -> u8
         ensures { result ≡ byte_at register self }
     {
-        if register == Dma::COUNT {
-            return (self.count % 256) as u8;
+        let [low, high] = self.count.to_le_bytes();
+        let [a0, a1, a2, _] = self.address.to_le_bytes();
+        match register {
+            Dma::COUNT => low,
+            Dma::COUNT_HIGH => high,
+            Dma::ADDRESS => a0,
+            Dma::ADDRESS_MIDDLE => a1,
+            _ => a2,
         }
-        if register == Dma::COUNT_HIGH {
-            return (self.count / 256 % 256) as u8;
-        }
-        if register == Dma::ADDRESS {
-            return (self.address % 256) as u8;
-        }
-        if register == Dma::ADDRESS_MIDDLE {
-            return (self.address / 256 % 256) as u8;
-        }
-        (self.address / 65536 % 256) as u8
     }
 }
 
-// The even address at or below an address.
-fn even(a: u32) -> u32
-    ensures value { result ≡ start_of 2 a }
-    ensures upper_bound { result < 4294967295 }
-{
-    a / 2 * 2
-}
-
 impl Channel {
+    // TDIR: device to memory, memory to device
+    const WRITES: u8 = 1;
+
+    const READS: u8 = 2;
+
+    // Its units are words.
+    fn is_word(self) -> bool
+        ensures { result ≡ word self }
+    {
+        bits::bit(self.mode, 0)
+    }
+
+    // It has the bus only while it asks for it.
+    fn is_demand(self) -> bool
+        ensures { result ≡ demand self }
+    {
+        self.mode / 64 == 0
+    }
+
     // Current after a unit.
     fn step(self) -> Span
         ensures { result ≡ next self }
     {
         let falls = bits::bit(self.mode, 5);
-        let word = bits::bit(self.mode, 0);
         Span {
-            address: next_address(self.current.address, falls, word),
+            address: next_address(self.current.address, falls, self.is_word()),
             count: bits::one_less(self.current.count),
         }
     }
 
     // The channel after a unit. The last one masks it, unless it autoinitializes.
-    pub fn advance(self, last: bool) -> Channel
+    #[tactic(auto, unfolding(crate::specs::Cycle::moved_of))]
+    pub fn advance(mut self, last: bool) -> Channel
         ensures { result ≡ moved_of self last }
     {
-        let mut next = self;
-        if last {
-            if bits::bit(self.mode, 4) {
-                let base = self.base;
-                next.current = base;
-                return next;
-            }
-            let stepped = self.step();
-            next.current = stepped;
-            next.masked = true;
-            return next;
+        if last && bits::bit(self.mode, 4) {
+            self.current = self.base;
+            return self;
         }
-        let stepped = self.step();
-        next.current = stepped;
-        next
+        self.current = self.step();
+        if last {
+            self.masked = true;
+        }
+        self
     }
 
     // A count of N is N + 1 units: the last one finds the count at 0.
     fn is_last(self, end: bool) -> bool
         ensures { result ≡ last_of self end }
     {
-        if self.current.count == 0 {
-            return true;
-        }
-        end
+        self.current.count == 0 || end
     }
 
     // The last unit stops service, and in single mode any unit does.
     fn does_stop(self, last: bool) -> bool
         ensures { result ≡ stops_of self last }
     {
-        if last {
-            return true;
-        }
-        self.mode / 64 == 1
+        last || self.mode / 64 == 1
     }
 
-    // Moves the unit, and says whether any of it lies outside the memory. A word at an odd address uses the even one below. Verify moves nothing, answers 0 and has
-    // nothing outside.
+    // Moves the unit, and says whether any of it lies outside the memory. A word at an odd address uses the even one below. Verify moves nothing,
+    // answers 0 and has nothing outside.
     pub fn transfer(self, byte: u8, upper: u8, memory: &mut [u8]) -> Carried
         ensures result { result ≡ carried_of self memory.old byte upper }
         ensures memory { memory.new ≡ memory_of self memory.old byte upper }
     {
-        let word = bits::bit(self.mode, 0);
-        let direction = self.mode / 4 % 4;
-        if direction == 1 {
-            if word {
-                return poke_word(memory, even(self.current.address), byte, upper);
-            }
-            return poke_byte(memory, self.current.address, byte);
+        let word = self.is_word();
+        let at = self.current.address;
+        match self.mode / 4 % 4 {
+            Channel::WRITES if word => poke_word(memory, at / 2 * 2, byte, upper),
+            Channel::WRITES => poke_byte(memory, at, byte),
+            Channel::READS if word => peek_word(memory, at / 2 * 2),
+            Channel::READS => peek_byte(memory, at),
+            _ => Carried::new(0, 0, false),
         }
-        if direction == 2 {
-            if word {
-                return peek_word(memory, even(self.current.address));
-            }
-            return peek_byte(memory, self.current.address);
-        }
-        Carried::new(0, 0, false)
     }
 }
 
 // Whether a cycle moves a unit of channel n, which is c, and nothing more comes of it. Most units are like that, and such a one changes nothing of
 // the chip but that channel's address and count.
+#[tactic(auto, unfolding(crate::specs::Cycle::plain_of))]
 pub fn is_plain(c: Channel, serving: bool, n: u8, requests: u8, end: bool) -> bool
     ensures { result ≡ plain_of c serving n requests end }
 {
-    if serving {
-        if Dma::CHANNELS <= n {
-            return false;
-        }
-        if c.current.count == 0 {
-            return false;
-        }
-        if end {
-            return false;
-        }
-        if c.mode / 64 == 1 {
-            return false;
-        }
-        if c.mode / 64 == 0 {
-            return bits::bit(requests, n);
-        }
-        return true;
+    if !serving || Dma::CHANNELS <= n || c.current.count == 0 || end {
+        return false;
     }
-    false
+    match c.mode / 64 {
+        0 => bits::bit(requests, n),
+        1 => false,
+        _ => true,
+    }
 }
 
 impl Dma {
@@ -439,6 +364,7 @@ impl Dma {
     pub const MASK: u8 = 15;
 
     // Every channel masked, an 8-bit bus, all else zero.
+    #[tactic(auto, unfolding(crate::specs::Registers::reset_of))]
     pub fn reset() -> Dma
         ensures { result ≡ reset_of }
     {
@@ -453,7 +379,7 @@ impl Dma {
             masked: true,
         };
         Dma {
-            channels: [unset, unset, unset, unset],
+            channels: [unset; 4],
             wide: false,
             selected: 0,
             base: false,
@@ -468,38 +394,37 @@ impl Dma {
     }
 
     // The request lines, channel 0 in bit 0.
-    pub fn set_requests(mut self, levels: u8) -> Dma
+    #[tactic(auto, unfolding(crate::specs::Registers::requested_of))]
+    pub fn set_requests(self, levels: u8) -> Dma
         ensures { result ≡ requested_of self levels }
     {
-        self.requests = levels % 16;
-        self
+        Dma {
+            requests: levels % 16,
+            ..self
+        }
     }
 
     // Channel n, all zero where there is none. Each place is named by itself: where the place is a variable, the compiler moves the chip whole.
     fn channel_at(self, n: u8) -> Channel
         ensures { result ≡ chan self n }
     {
-        if n == 0 {
-            return self.channels[0];
-        }
-        if n == 1 {
-            return self.channels[1];
-        }
-        if n == 2 {
-            return self.channels[2];
-        }
-        if n == 3 {
-            return self.channels[3];
-        }
-        let zero = Span {
-            address: 0,
-            count: 0,
-        };
-        Channel {
-            current: zero,
-            base: zero,
-            mode: 0,
-            masked: false,
+        match n {
+            0 => self.channels[0],
+            1 => self.channels[1],
+            2 => self.channels[2],
+            3 => self.channels[3],
+            _ => Channel {
+                current: Span {
+                    address: 0,
+                    count: 0,
+                },
+                base: Span {
+                    address: 0,
+                    count: 0,
+                },
+                mode: 0,
+                masked: false,
+            },
         }
     }
 
@@ -507,360 +432,271 @@ impl Dma {
     fn with_channel(mut self, n: u8, c: Channel) -> Dma
         ensures { result ≡ channels_are (set self.channels n c) self }
     {
-        if n == 0 {
-            self.channels[0] = c;
-            return self;
-        }
-        if n == 1 {
-            self.channels[1] = c;
-            return self;
-        }
-        if n == 2 {
-            self.channels[2] = c;
-            return self;
-        }
-        if n == 3 {
-            self.channels[3] = c;
-            return self;
+        match n {
+            0 => self.channels[0] = c,
+            1 => self.channels[1] = c,
+            2 => self.channels[2] = c,
+            3 => self.channels[3] = c,
+            _ => {}
         }
         self
     }
 
     // Whether any channel moves words.
+    #[tactic(auto, unfolding(crate::specs::Registers::any_words))]
     fn has_words(self) -> bool
         ensures { result ≡ any_words self }
     {
-        let c0 = self.channel_at(0);
-        let c1 = self.channel_at(1);
-        let c2 = self.channel_at(2);
-        let c3 = self.channel_at(3);
-        if bits::bit(c0.mode, 0) {
-            return true;
-        }
-        if bits::bit(c1.mode, 0) {
-            return true;
-        }
-        if bits::bit(c2.mode, 0) {
-            return true;
-        }
-        bits::bit(c3.mode, 0)
+        self.channels.iter().any(|c| c.is_word())
     }
 
     // Register 0: RES resets all but the request lines, which are no register; 16B is the width of the bus, and no channel may move words without it.
-    fn initialize(self, x: u8) -> Written
-        ensures { result ≡ initialized_of self x }
+    #[tactic(auto, unfolding(crate::specs::Registers::initialized_of))]
+    fn initialize(self, x: u8) -> Result<Dma, Refusal>
+        ensures { written_as self result ≡ initialized_of self x }
     {
         let wide = bits::bit(x, 1);
         if bits::bit(x, 0) {
-            let mut fresh = Dma::reset();
-            fresh.wide = wide;
-            fresh.requests = self.requests;
-            return Written::taken(fresh);
+            return Ok(Dma {
+                wide,
+                requests: self.requests,
+                ..Dma::reset()
+            });
         }
-        let mut next = self;
-        next.wide = wide;
-        if wide {
-            return Written::taken(next);
+        if !wide && self.has_words() {
+            return Err(Refusal::NotBuilt);
         }
-        if self.has_words() {
-            return Written::refused(4, self);
-        }
-        Written::taken(next)
+        Ok(Dma { wide, ..self })
     }
 
     // Register 1: the channel that other registers are of, and BASE.
-    fn select(mut self, x: u8) -> Written
-        ensures { result ≡ selected_of self x }
+    #[tactic(auto, unfolding(crate::specs::Registers::selected_of))]
+    fn select(self, x: u8) -> Dma
+        ensures { taken result ≡ selected_of self x }
     {
-        self.selected = x % 4;
-        self.base = bits::bit(x, 2);
-        Written::taken(self)
+        Dma {
+            selected: x % 4,
+            base: bits::bit(x, 2),
+            ..self
+        }
     }
 
     // Registers 2 to 6: base always takes the byte, current only with BASE=0.
+    #[tactic(auto, unfolding(crate::specs::Registers::loaded_of))]
     fn load(self, register: u8, x: u8) -> Dma
         ensures { result ≡ loaded_of self register x }
     {
-        let mut c = self.channel_at(self.selected);
+        let c = self.channel_at(self.selected);
         let base = c.base.replace(register, x);
-        let current = c.current.replace(register, x);
-        c.base = base;
         if self.base {
-            return self.with_channel(self.selected, c);
+            return self.with_channel(self.selected, Channel { base, ..c });
         }
-        c.current = current;
-        self.with_channel(self.selected, c)
+        let current = c.current.replace(register, x);
+        self.with_channel(self.selected, Channel { current, base, ..c })
     }
 
     // The first rank under a new ROT: rotation that is turned on starts from channel 0.
     fn keep_first(self, rotate: bool) -> u8
         ensures { result ≡ kept_first self rotate }
     {
-        if rotate {
-            if self.rotate {
-                return self.first;
-            }
-            return 0;
-        }
-        0
+        if rotate && self.rotate { self.first } else { 0 }
     }
 
     // Register 8: ROT and DDMA.
-    fn control(self, x: u8) -> Written
-        ensures { result ≡ controlled_of self x }
+    #[tactic(auto, unfolding(crate::specs::Registers::controlled_of))]
+    fn control(self, x: u8) -> Result<Dma, Refusal>
+        ensures { written_as self result ≡ controlled_of self x }
     {
-        if bits::masked(x, 20) == 0 {
-            let rotate = bits::bit(x, 4);
-            let mut next = self;
-            next.first = self.keep_first(rotate);
-            next.rotate = rotate;
-            next.disabled = bits::bit(x, 2);
-            return Written::taken(next);
+        if bits::masked(x, 20) != 0 {
+            return Err(Refusal::NotBuilt);
         }
-        Written::refused(4, self)
+        let rotate = bits::bit(x, 4);
+        Ok(Dma {
+            rotate,
+            disabled: bits::bit(x, 2),
+            first: self.keep_first(rotate),
+            ..self
+        })
     }
 
     // Register 9: none of its bits is built.
-    fn control_high(self, x: u8) -> Written
-        ensures { result ≡ held_zero self x }
+    fn control_high(self, x: u8) -> Result<Dma, Refusal>
+        ensures { written_as self result ≡ held_zero self x }
     {
         if x == 0 {
-            return Written::taken(self);
+            Ok(self)
+        } else {
+            Err(Refusal::NotBuilt)
         }
-        Written::refused(4, self)
     }
 
     // TMODE 11, TDIR 11, and D1.
+    #[tactic(auto, unfolding(crate::specs::Registers::unbuilt_mode))]
     pub fn is_unbuilt_mode(x: u8) -> bool
         ensures { result ≡ unbuilt_mode x }
     {
-        if x / 64 == 3 {
-            return true;
-        }
-        if x / 4 % 4 == 3 {
-            return true;
-        }
-        bits::bit(x, 1)
+        x / 64 == 3 || x / 4 % 4 == 3 || bits::bit(x, 1)
     }
 
     // The same, and words on an 8-bit bus.
+    #[tactic(auto, unfolding(crate::specs::Registers::refuses_mode))]
     fn does_refuse_mode(self, x: u8) -> bool
         ensures { result ≡ refuses_mode self x }
     {
-        if Dma::is_unbuilt_mode(x) {
-            return true;
-        }
-        let words = bits::bit(x, 0);
-        if words {
-            return !self.wide;
-        }
-        false
+        Dma::is_unbuilt_mode(x) || bits::bit(x, 0) && !self.wide
     }
 
     // Register A, of the selected channel.
-    fn set_mode(self, x: u8) -> Written
-        ensures { result ≡ moded_of self x }
+    #[tactic(auto, unfolding(crate::specs::Registers::moded_of))]
+    fn set_mode(self, x: u8) -> Result<Dma, Refusal>
+        ensures { written_as self result ≡ moded_of self x }
     {
         if self.does_refuse_mode(x) {
-            return Written::refused(4, self);
+            return Err(Refusal::NotBuilt);
         }
-        let mut c = self.channel_at(self.selected);
-        c.mode = x;
-        let next = self.with_channel(self.selected, c);
-        Written::taken(next)
+        let c = self.channel_at(self.selected);
+        Ok(self.with_channel(self.selected, Channel { mode: x, ..c }))
     }
 
     // Register F.
+    #[tactic(auto, unfolding(crate::specs::Registers::masked_by))]
     fn set_masks(self, x: u8) -> Dma
         ensures { result ≡ masked_by self x }
     {
-        let mut c0 = self.channel_at(0);
-        let mut c1 = self.channel_at(1);
-        let mut c2 = self.channel_at(2);
-        let mut c3 = self.channel_at(3);
-        c0.masked = bits::bit(x, 0);
-        c1.masked = bits::bit(x, 1);
-        c2.masked = bits::bit(x, 2);
-        c3.masked = bits::bit(x, 3);
-        let mut next = self;
-        next.channels = [c0, c1, c2, c3];
-        next
+        let [c0, c1, c2, c3] = self.channels;
+        let channels = [
+            Channel {
+                masked: bits::bit(x, 0),
+                ..c0
+            },
+            Channel {
+                masked: bits::bit(x, 1),
+                ..c1
+            },
+            Channel {
+                masked: bits::bit(x, 2),
+                ..c2
+            },
+            Channel {
+                masked: bits::bit(x, 3),
+                ..c3
+            },
+        ];
+        Dma { channels, ..self }
     }
 
     // A write of x to the register A3-A0.
-    pub fn write(self, register: u8, x: u8) -> Written
-        ensures { result ≡ write_of self register x }
+    #[tactic(auto, unfolding(crate::specs::Registers::write_of, crate::specs::Registers::selected_of))]
+    pub fn write(self, register: u8, x: u8) -> Result<Dma, Refusal>
+        ensures { written_as self result ≡ write_of self register x }
     {
         let r = register % Dma::PORTS;
-        if r == Dma::INITIALIZE {
-            return self.initialize(x);
+        match r {
+            Dma::INITIALIZE => self.initialize(x),
+            Dma::SELECTION => Ok(self.select(x)),
+            Dma::COUNT..=Dma::ADDRESS_HIGH => Ok(self.load(r, x)),
+            Dma::DEVICE_CONTROL => self.control(x),
+            Dma::DEVICE_CONTROL_HIGH => self.control_high(x),
+            Dma::MODE_CONTROL => self.set_mode(x),
+            Dma::MASK => Ok(self.set_masks(x)),
+            // there is no register 7, and the status is only read
+            7 | Dma::STATUS => Err(Refusal::NotThere),
+            _ => Err(Refusal::NotBuilt),
         }
-        if r == Dma::SELECTION {
-            return self.select(x);
-        }
-        if r <= Dma::ADDRESS_HIGH {
-            return Written::taken(self.load(r, x));
-        }
-        // there is no register 7
-        if r == 7 {
-            return Written::refused(2, self);
-        }
-        if r == Dma::DEVICE_CONTROL {
-            return self.control(x);
-        }
-        if r == Dma::DEVICE_CONTROL_HIGH {
-            return self.control_high(x);
-        }
-        if r == Dma::MODE_CONTROL {
-            return self.set_mode(x);
-        }
-        if r == Dma::STATUS {
-            return Written::refused(2, self);
-        }
-        if r < Dma::MASK {
-            return Written::refused(4, self);
-        }
-        Written::taken(self.set_masks(x))
     }
 
     // What registers 2 to 6 are of.
+    #[tactic(auto, unfolding(crate::specs::Registers::shown_span))]
     fn shown_span(self) -> Span
         ensures { result ≡ shown_span self }
     {
         let c = self.channel_at(self.selected);
-        if self.base {
-            return c.base;
-        }
-        c.current
+        if self.base { c.base } else { c.current }
     }
 
     // Register F, read.
     fn masks(self) -> u8
         ensures { result ≡ masks_of self }
     {
-        let c0 = self.channel_at(0);
-        let c1 = self.channel_at(1);
-        let c2 = self.channel_at(2);
-        let c3 = self.channel_at(3);
+        let [c0, c1, c2, c3] = self.channels;
         bits::weigh(c0.masked, 1)
             + bits::weigh(c1.masked, 2)
             + bits::weigh(c2.masked, 4)
             + bits::weigh(c3.masked, 8)
     }
 
-    // A read that shows a byte.
-    fn show(self, byte: u8) -> Seen
-        ensures { result ≡ seen_as (shows byte self) }
+    // A read that shows a byte and changes nothing.
+    fn show(self, byte: u8) -> Result<Shown, Refusal>
+        ensures { result ≡ Ok (record { byte = byte; ends = self.ends }) }
     {
-        Seen {
-            status: 0,
-            byte: byte,
+        Ok(Shown {
+            byte,
             ends: self.ends,
-        }
-    }
-
-    // A read that shows nothing and changes nothing.
-    fn hide(self, status: u8) -> Seen
-        ensures { result ≡ seen_as (unread status self) }
-    {
-        Seen {
-            status: status,
-            byte: 0,
-            ends: self.ends,
-        }
+        })
     }
 
     // A read of the register A3-A0. That of B, the status, clears the end bits.
-    pub fn look(self, register: u8) -> Seen
-        ensures { result ≡ seen_of self register }
+    #[tactic(auto, unfolding(crate::specs::Registers::seen_of, crate::specs::Registers::read_of))]
+    pub fn look(self, register: u8) -> Result<Shown, Refusal>
+        ensures { shown_as self result ≡ seen_of self register }
     {
         let r = register % Dma::PORTS;
-        if r == Dma::INITIALIZE {
-            return self.hide(2);
-        }
-        if r == Dma::SELECTION {
-            return self.show(bits::with(bits::weigh(self.base, 16), self.selected));
-        }
-        if r <= Dma::ADDRESS_HIGH {
-            return self.show(self.shown_span().show(r));
-        }
-        // there is no register 7
-        if r == 7 {
-            return self.hide(2);
-        }
-        if r == Dma::DEVICE_CONTROL {
-            return self.show(bits::weigh(self.rotate, 16) + bits::weigh(self.disabled, 4));
-        }
-        if r == Dma::DEVICE_CONTROL_HIGH {
-            return self.show(0);
-        }
-        if r == Dma::MODE_CONTROL {
-            return self.show(self.channel_at(self.selected).mode);
-        }
-        if r == Dma::STATUS {
-            return Seen {
-                status: 0,
+        match r {
+            Dma::SELECTION => self.show(bits::with(bits::weigh(self.base, 16), self.selected)),
+            Dma::COUNT..=Dma::ADDRESS_HIGH => self.show(self.shown_span().show(r)),
+            Dma::DEVICE_CONTROL => {
+                self.show(bits::weigh(self.rotate, 16) + bits::weigh(self.disabled, 4))
+            }
+            Dma::DEVICE_CONTROL_HIGH => self.show(0),
+            Dma::MODE_CONTROL => self.show(self.channel_at(self.selected).mode),
+            Dma::STATUS => Ok(Shown {
                 byte: self.requests % 16 * 16 + self.ends % 16,
                 ends: 0,
-            };
+            }),
+            Dma::MASK => self.show(self.masks()),
+            // there is no register 7, and what initializes is only written
+            Dma::INITIALIZE | 7 => Err(Refusal::NotThere),
+            _ => Err(Refusal::NotBuilt),
         }
-        if r < Dma::MASK {
-            return self.hide(4);
-        }
-        self.show(self.masks())
     }
 
     // The same, with the chip as it is afterwards.
-    pub fn read(self, register: u8) -> Got
-        ensures { result ≡ read_of self register }
+    #[tactic(auto, using(crate::proofs::Looks::put_back))]
+    pub fn read(self, register: u8) -> Result<(u8, Dma), Refusal>
+        ensures { got_as self result ≡ read_of self register }
     {
-        let s = self.look(register);
-        let mut next = self;
-        next.ends = s.ends;
-        Got {
-            status: s.status,
-            byte: s.byte,
-            dma: next,
-        }
+        let Shown { byte, ends } = self.look(register)?;
+        Ok((byte, Dma { ends, ..self }))
     }
 
     // Channel n asks for service and is not masked.
+    #[tactic(auto, unfolding(crate::specs::Cycle::ready))]
     fn is_ready(self, n: u8) -> bool
         ensures { result ≡ ready self n }
     {
-        let c = self.channel_at(n);
-        if c.masked {
-            return false;
-        }
-        bits::bit(self.requests, n)
+        !self.channel_at(n).masked && bits::bit(self.requests, n)
     }
 
     // The channel at rank k. The first rank means nothing while the rank is fixed.
+    #[tactic(auto, unfolding(crate::specs::Cycle::channel_at))]
     fn ranked(self, k: u8) -> u8
         ensures { result ≡ channel_at self k }
     {
-        if self.rotate {
-            return (self.first % 4 + k % 4) % 4;
-        }
-        k % 4
+        let first = if self.rotate { self.first } else { 0 };
+        (first % 4 + k % 4) % 4
     }
 
-    // The highest-ranked ready channel, 4 where there is none.
-    fn find_winner(self) -> u8
-        ensures { result ≡ winner self }
+    // The highest-ranked ready channel.
+    fn find_winner(self) -> Option<u8>
+        ensures { MatchOption result (winner self ≡ 4) (λ n. (winner self ≡ n) × (n < 4)) }
     {
-        let mut k: u8 = 0;
-        let n = loop {
-            if k == Dma::CHANNELS {
-                break Dma::CHANNELS;
-            }
+        for k in 0..Dma::CHANNELS {
             let n = self.ranked(k);
             if self.is_ready(n) {
-                break n;
+                return Some(n);
             }
-            k += 1;
-        };
-        n
+        }
+        None
     }
 
     // The first rank once the served channel is served no more.
@@ -868,9 +704,10 @@ impl Dma {
         ensures { result ≡ first_after self self.channel }
     {
         if self.rotate {
-            return (self.channel % 4 + 1) % 4;
+            (self.channel % 4 + 1) % 4
+        } else {
+            self.first
         }
-        self.first
     }
 
     // The end bits after a unit of the served channel.
@@ -878,9 +715,10 @@ impl Dma {
         ensures { result ≡ ends_after self last }
     {
         if last {
-            return bits::with(self.ends, self.channel);
+            bits::with(self.ends, self.channel)
+        } else {
+            self.ends
         }
-        self.ends
     }
 
     // The served channel becomes c, and service goes on or stops.
@@ -888,20 +726,25 @@ impl Dma {
         ensures { result ≡ settled_of self c last stop }
     {
         let ends = self.ends_after(last);
-        let first = self.first_after();
-        let mut next = self.with_channel(self.channel, c);
-        next.ends = ends;
+        let moved = self.with_channel(self.channel, c);
         if stop {
-            next.serving = false;
-            next.channel = 0;
-            next.first = first;
-            return next;
+            return Dma {
+                serving: false,
+                channel: 0,
+                first: self.first_after(),
+                ends,
+                ..moved
+            };
         }
-        next.serving = true;
-        next
+        Dma {
+            serving: true,
+            ends,
+            ..moved
+        }
     }
 
     // One unit of the served channel.
+    #[tactic(auto, unfolding(crate::specs::Cycle::unit_of))]
     fn move_unit(self, end: bool, byte: u8, upper: u8, memory: &mut [u8]) -> Cycle
         ensures dma { result.dma ≡ (unit_of self end byte upper memory.old).dma }
         ensures report { told result.report ≡ (unit_of self end byte upper memory.old).report }
@@ -909,16 +752,14 @@ impl Dma {
     {
         let c = self.channel_at(self.channel);
         let last = c.is_last(end);
-        let stop = c.does_stop(last);
-        let next = c.advance(last);
-        let settled = self.settle(next, last, stop);
+        let stopped = c.does_stop(last);
         let carried = c.transfer(byte, upper, memory);
         Cycle {
-            dma: settled,
+            dma: self.settle(c.advance(last), last, stopped),
             report: Report::Moved(Unit {
                 channel: self.channel,
                 end: last,
-                stopped: stop,
+                stopped,
                 address: c.current.address,
                 byte: carried.byte,
                 upper: carried.upper,
@@ -931,38 +772,38 @@ impl Dma {
     fn does_release(self) -> bool
         ensures { result ≡ releases self }
     {
-        let c = self.channel_at(self.channel);
-        if c.mode / 64 == 0 {
-            return !bits::bit(self.requests, self.channel);
-        }
-        false
+        self.channel_at(self.channel).is_demand() && !bits::bit(self.requests, self.channel)
     }
 
     // The bus goes back to the CPU; to the ranks this is a service that stopped.
+    #[tactic(auto, unfolding(crate::specs::Cycle::released_of))]
     fn release(self) -> Cycle
         ensures dma { result.dma ≡ (released_of self []).dma }
         ensures report { told result.report ≡ (released_of self []).report }
     {
-        let mut next = self;
-        next.serving = false;
-        next.channel = 0;
-        next.first = self.first_after();
         Cycle {
-            dma: next,
+            dma: Dma {
+                serving: false,
+                channel: 0,
+                first: self.first_after(),
+                ..self
+            },
             report: Report::Released(self.channel),
         }
     }
 
     // Channel n is in service from the next cycle on.
+    #[tactic(auto, unfolding(crate::specs::Cycle::granted_of))]
     fn grant(self, n: u8) -> Cycle
         ensures dma { result.dma ≡ (granted_of self n []).dma }
         ensures report { told result.report ≡ (granted_of self n []).report }
     {
-        let mut next = self;
-        next.serving = true;
-        next.channel = n;
         Cycle {
-            dma: next,
+            dma: Dma {
+                serving: true,
+                channel: n,
+                ..self
+            },
             report: Report::Granted(n),
         }
     }
@@ -979,6 +820,7 @@ impl Dma {
     }
 
     // One bus cycle. END and the device's bytes matter to a unit alone, the upper one to a word: a grant or a release ignores them.
+    #[tactic(auto, unfolding(crate::specs::Cycle::cycle_of, crate::specs::Cycle::released_of, crate::specs::Cycle::nothing_of, crate::specs::Cycle::granted_of))]
     pub fn cycle(self, end: bool, byte: u8, upper: u8, memory: &mut [u8]) -> Cycle
         ensures dma { result.dma ≡ (cycle_of self end byte upper memory.old).dma }
         ensures report { told result.report ≡ (cycle_of self end byte upper memory.old).report }
@@ -993,10 +835,9 @@ impl Dma {
         if self.disabled {
             return self.rest();
         }
-        let n = self.find_winner();
-        if n == Dma::CHANNELS {
-            return self.rest();
+        match self.find_winner() {
+            Some(n) => self.grant(n),
+            None => self.rest(),
         }
-        self.grant(n)
     }
 }

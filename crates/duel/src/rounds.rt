@@ -1,232 +1,169 @@
 // The duel: both boards on the same tapes, in rounds. A round lends both a memory of its own length, with the same pattern in it, starts both from
 // reset, and runs 64 stretches of 64 records. After each stretch the answers and the memories are held against each other.
-use super::first;
 use super::first::Run;
-use rival::counts::Tally;
-use rival::modes::Modes;
-use rival::places::Places;
-use rival::requests::Requests;
-use rival::slave::Slave;
-use rival::stretch::{Answers, Memory, Ran, Tape};
+use report::STDOUT;
+use rival::counts::{Tally, add};
+use rival::show::Output;
+use rival::stretch::{Answers, Memory, Ran, Seen, Tape};
 use rival::tapes::Maker;
-use rival::{counts, modes, places, requests, show, slave, stretch, tapes};
+use rival::{show, stretch};
+use std::fmt;
+use std::fmt::Write;
 
 // The lengths of memory, by round.
-const LENGTHS: [u32; 16] = [
+const LENGTHS: [u16; 16] = [
     4096, 0, 256, 1, 4096, 3, 4095, 17, 1000, 2, 5, 100, 257, 2048, 9, 255,
 ];
 
-// A round under way.
-#[derive(Clone, Copy)]
+// A round under way: its number, how many records it has passed, and both boards with their memories.
+#[derive(Drop)]
 struct Round {
+    number: u32,
+    passed: u64,
     maker: Maker,
-    run: Run,
-    ran: Ran,
+    first: Run,
+    second: Ran,
+    first_memory: Memory,
+    second_memory: Memory,
 }
 
 // The counts of the duel.
-#[derive(Clone, Copy)]
+#[derive(Clone, Copy, Default)]
 pub struct Counted {
     pub tally: Tally,
-    modes: Modes,
-    requests: Requests,
-    slave: Slave,
-    pub places: Places,
+    pub seen: Seen,
 }
 
-fn fill(memory: &mut Memory, seed: u32) {
-    let mut i: usize = 0;
-    while i < 4096 {
-        memory[i] = ((i * 7 + i / 256 * 3 + second::index(seed) % 256) % 256) as u8;
-        i += 1;
+// The memory of a round, with its pattern.
+fn memory_of(number: u32, length: u16) -> Memory {
+    let mut bytes = [0; 4096];
+    for i in 0..4096 {
+        bytes[i] = ((i * 7 + i / 256 * 3 + number as usize % 256) % 256) as u8;
+    }
+    Memory {
+        bytes,
+        length: usize::from(length),
     }
 }
 
-// A tape of 64 records.
-fn make(start: Maker, tape: &mut Tape) -> Maker {
-    let mut maker = start;
-    let mut i: usize = 0;
-    while i < 64 {
-        let drawn = tapes::next_record(maker);
-        let record = drawn.record;
-        stretch::put_record(tape, i, record);
-        maker = drawn.maker;
-        i += 1;
+impl Round {
+    fn start(number: u32, counted: Counted) -> Round {
+        let length = LENGTHS[number as usize % 16];
+        let memory = memory_of(number, length);
+        let seed = number.saturating_add(1);
+        Round {
+            number,
+            passed: 0,
+            maker: Maker::new(seed, u32::from(length)),
+            first: Run::from_reset(seed, counted.tally),
+            second: Ran::from_reset(counted.seen),
+            first_memory: memory,
+            second_memory: memory,
+        }
     }
-    maker
-}
 
-// The first difference of all is told.
-fn tell(round: u32, record: u64) {
-    show::print_with(
-        b"first difference: round %, record %\n",
-        round as u64,
-        record,
-        0,
-        0,
-    );
-}
-
-fn tell_answers(round: u32, passed: u64, want: &Answers, got: &Answers) {
-    let i = stretch::next_differing(want, got, 0);
-    tell(round, passed % 4294967296 + (i % 68) as u64 + 1);
-    show::print_answer(b"  first board ", stretch::answer_at(got, i));
-    show::print_answer(b"  second board", stretch::answer_at(want, i));
-}
-
-// The answers are counted, and compared.
-fn compare_answers(
-    tally: Tally,
-    round: u32,
-    passed: u64,
-    tape: &Tape,
-    want: &Answers,
-    got: &Answers,
-) -> Tally {
-    let counted = counts::count_answers(tally, tape, want);
-    let n = stretch::count_differing(want, got);
-    if n == 0 {
-        return compare_calls(counted, round, passed);
+    // The first difference of all is told, by the place of its record in the stretch.
+    fn tell(&self, place: usize) {
+        let _ = writeln!(
+            Output(STDOUT),
+            "first difference: round {}, record {}",
+            self.number,
+            self.passed.saturating_add(place as u64).saturating_add(1)
+        );
     }
-    if counts::at(tally, counts::DIFFERENCES) == 0 {
-        tell_answers(round, passed, want, got);
-    }
-    compare_calls(counts::add(counted, counts::DIFFERENCES, n), round, passed)
-}
 
-fn tell_memory(round: u32, passed: u64, a: &Memory, b: &Memory) {
-    let at = stretch::first_apart(a, b) % 4096;
-    tell(round, passed % 4294967296 + 64);
-    show::print_with(
-        b"  memory after it, place %: first board $, second board $\n",
-        at as u64,
-        show::long(a[at]),
-        show::long(b[at]),
-        0,
-    );
-}
+    // The answers are counted, and compared.
+    fn compare_answers(&mut self, tape: &Tape, want: &Answers, got: &Answers) {
+        self.first.tally.count_answers(tape, want);
+        if let Some((i, (want, got))) = stretch::first_apart(want, got) {
+            if self.first.tally.differences == 0 {
+                self.tell(i);
+                let _ = show::print_answer("  first board ", got);
+                let _ = show::print_answer("  second board", want);
+            }
+        }
+        add(
+            &mut self.first.tally.differences,
+            stretch::count_apart(want, got),
+        );
+    }
 
-fn compare_memory(tally: Tally, round: u32, passed: u64, a: &Memory, b: &Memory) -> Tally {
-    if stretch::first_apart(a, b) >= 4096 {
-        return tally;
+    // Calls that were not taken whole or refused whole.
+    fn compare_calls(&mut self) {
+        if self.first.tally.wrong == 0 {
+            return;
+        }
+        if self.first.tally.differences == 0 {
+            self.tell(63);
+            let _ = writeln!(
+                Output(STDOUT),
+                "  a call before it was not taken whole or refused whole"
+            );
+        }
+        self.first.tally.wrong = 0;
+        add(&mut self.first.tally.differences, 1);
     }
-    if counts::at(tally, counts::DIFFERENCES) == 0 {
-        tell_memory(round, passed, a, b);
-    }
-    counts::add(tally, counts::DIFFERENCES, 1)
-}
 
-// Calls that were not taken whole or refused whole.
-fn compare_calls(tally: Tally, round: u32, passed: u64) -> Tally {
-    if counts::at(tally, counts::WRONG) == 0 {
-        return tally;
+    fn compare_memory(&mut self) {
+        let got = &self.first_memory.bytes;
+        let want = &self.second_memory.bytes;
+        let Some((i, (got, want))) = stretch::first_apart(got, want) else {
+            return;
+        };
+        if self.first.tally.differences == 0 {
+            self.tell(63);
+            let _ = writeln!(
+                Output(STDOUT),
+                "  memory after it, place {i}: first board {got:02x}, second board {want:02x}"
+            );
+        }
+        add(&mut self.first.tally.differences, 1);
     }
-    if counts::at(tally, counts::DIFFERENCES) == 0 {
-        tell(round, passed % 4294967296 + 64);
-        show::print(b"  a call before it was not taken whole or refused whole\n");
-    }
-    counts::add(
-        counts::cleared(tally, counts::WRONG),
-        counts::DIFFERENCES,
-        1,
-    )
-}
 
-fn run_stretch(
-    state: Round,
-    first_memory: &mut Memory,
-    second_memory: &mut Memory,
-    round: u32,
-    passed: u64,
-) -> Round {
-    let length = second::index(length_of(round));
-    let mut tape = [0u8; 512];
-    let mut want = [stretch::UNWRITTEN; 1088];
-    let mut got = [stretch::UNWRITTEN; 1088];
-    let maker = make(state.maker, &mut tape);
-    let ran = stretch::run_second(state.ran, &tape, 64, second_memory, length, &mut want);
-    let run = first::run_first(state.run, &tape, 64, first_memory, length, &mut got);
-    let counted = compare_answers(run.tally, round, passed, &tape, &want, &got);
-    let tally = compare_memory(counted, round, passed, first_memory, second_memory);
-    Round {
-        maker: maker,
-        run: first::counting(run, tally),
-        ran: ran,
+    fn run_stretch(&mut self) {
+        let mut tape = [[0; 8]; 64];
+        for record in &mut tape {
+            *record = self.maker.next_record();
+        }
+        let mut want = stretch::UNWRITTEN;
+        let mut got = stretch::UNWRITTEN;
+        self.second.run(&tape, &mut self.second_memory, &mut want);
+        self.first.run(&tape, &mut self.first_memory, &mut got);
+        self.compare_answers(&tape, &want, &got);
+        self.compare_calls();
+        self.compare_memory();
+        self.passed = self.passed.saturating_add(64);
     }
 }
 
-fn length_of(round: u32) -> u32 {
-    let row = second::index(round) % 16;
-    LENGTHS[row]
-}
-
-fn start(round: u32, counted: Counted) -> Round {
-    Round {
-        maker: tapes::start(round % 65536 + 1, length_of(round)),
-        run: first::from_reset(round % 65536 + 1, counted.tally),
-        ran: stretch::from_reset(
-            counted.modes,
-            counted.requests,
-            counted.slave,
-            counted.places,
-        ),
+impl Counted {
+    fn run_round(&mut self, number: u32) {
+        let mut round = Round::start(number, *self);
+        for _ in 0..64 {
+            round.run_stretch();
+        }
+        self.tally = round.first.tally;
+        self.seen = round.second.seen;
     }
-}
 
-fn run_round(round: u32, counted: Counted) -> Counted {
-    let mut first_memory = [0u8; 4096];
-    let mut second_memory = [0u8; 4096];
-    fill(&mut first_memory, round);
-    fill(&mut second_memory, round);
-    let mut state = start(round, counted);
-    let mut i: u64 = 0;
-    while i < 64 {
-        state = run_stretch(state, &mut first_memory, &mut second_memory, round, i * 64);
-        i += 1;
+    // n rounds.
+    pub(crate) fn duel(n: u32) -> Counted {
+        let mut counted = Counted::default();
+        for number in 0..n {
+            counted.run_round(number);
+        }
+        counted
     }
-    let run = state.run;
-    let ran = state.ran;
-    let tally = run.tally;
-    let modes = ran.modes;
-    let requests = ran.requests;
-    let slave = ran.slave;
-    let places = ran.places;
-    Counted {
-        tally: tally,
-        modes: modes,
-        requests: requests,
-        slave: slave,
-        places: places,
-    }
-}
 
-fn none_yet() -> Counted {
-    Counted {
-        tally: counts::zero(),
-        modes: modes::zero(),
-        requests: requests::zero(),
-        slave: slave::zero(),
-        places: places::zero(),
+    // Whether the counts of n rounds were written. What one part was not written of does not keep back the next.
+    pub(crate) fn print(&self, n: u32) -> fmt::Result {
+        let mut out = Output(STDOUT);
+        let seen = &self.seen;
+        writeln!(out, "rounds: {n}")
+            .and(write!(out, "{}", self.tally))
+            .and(write!(out, "{}", seen.places))
+            .and(write!(out, "{}", seen.requests))
+            .and(write!(out, "{}", seen.slave))
+            .and(write!(out, "{}", seen.modes))
     }
-}
-
-// n rounds.
-pub fn duel(n: u32) -> Counted {
-    let mut counted = none_yet();
-    let mut round: u32 = 0;
-    while round < n {
-        counted = run_round(round, counted);
-        round += 1;
-    }
-    counted
-}
-
-// The counts of n rounds.
-pub fn print_all(n: u32, counted: Counted) -> bool {
-    show::print_with(b"rounds: %\n", n as u64, 0, 0, 0)
-        & counts::print_all(counted.tally)
-        & places::print_all(counted.places)
-        & requests::print_all(counted.requests)
-        & slave::print_all(counted.slave)
-        & modes::print_all(counted.modes)
 }

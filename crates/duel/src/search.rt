@@ -1,11 +1,13 @@
 // The two searches for the highest-ranked level of the first board, the one that the chips use and the one rank by rank, against each other: every byte
 // with every lowest level.
 use icu::Icu;
-use rival::show;
+use report::STDOUT;
+use rival::counts::add;
+use rival::show::Output;
+use std::fmt;
+use std::fmt::Write;
 
-const PAIRS: u16 = 2048;
-
-#[derive(Clone, Copy)]
+#[derive(Clone, Copy, Default)]
 pub struct Searched {
     // pairs of a byte and a lowest level, those of them in which no level is found, and those in which the searches differ
     pairs: u64,
@@ -13,63 +15,45 @@ pub struct Searched {
     pub differences: u64,
 }
 
-fn none_yet() -> Searched {
-    Searched {
-        pairs: 0,
-        empty: 0,
-        differences: 0,
+impl Searched {
+    fn search(&mut self, x: u8, lowest: u8) {
+        let quick = icu::highest(x, lowest);
+        let slow = icu::highest_by_steps(x, lowest);
+        add(&mut self.pairs, 1);
+        if slow.is_none() {
+            add(&mut self.empty, 1);
+        }
+        if quick != slow {
+            // The first difference is told.
+            if self.differences == 0 {
+                let _ = writeln!(
+                    Output(STDOUT),
+                    "first difference of the searches: byte {x:02x}, lowest level {lowest}: {} by turning, {} by steps",
+                    quick.unwrap_or(Icu::LEVELS),
+                    slow.unwrap_or(Icu::LEVELS)
+                );
+            }
+            add(&mut self.differences, 1);
+        }
+    }
+
+    pub(crate) fn compare() -> Searched {
+        let mut searched = Searched::default();
+        for x in 0..=255 {
+            for lowest in 0..8 {
+                searched.search(x, lowest);
+            }
+        }
+        searched
     }
 }
 
-// The first difference is told.
-fn tell(x: u8, lowest: u8, quick: u8, slow: u8) {
-    show::print_with(
-        b"first difference of the searches: byte $, lowest level %: % by turning, % by steps\n",
-        show::long(x),
-        show::long(lowest),
-        show::long(quick),
-        show::long(slow),
-    );
-}
-
-// One more if it is so; there are 2,048 pairs.
-fn more(n: u64, so: bool) -> u64 {
-    if so {
-        return n % 65536 + 1;
+impl fmt::Display for Searched {
+    fn fmt<W: fmt::Write>(&self, f: &mut fmt::Formatter<W>) -> fmt::Result {
+        writeln!(
+            f,
+            "searches for the highest-ranked level, by turning and by steps: {}, none found {}, differences {}",
+            self.pairs, self.empty, self.differences
+        )
     }
-    n
-}
-
-fn search(x: u8, lowest: u8, before: Searched) -> Searched {
-    let quick = icu::highest(x, lowest);
-    let slow = icu::highest_by_steps(x, lowest);
-    let apart = quick != slow;
-    if apart & (before.differences == 0) {
-        tell(x, lowest, quick, slow);
-    }
-    Searched {
-        pairs: more(before.pairs, true),
-        empty: more(before.empty, slow == Icu::LEVELS),
-        differences: more(before.differences, apart),
-    }
-}
-
-pub fn compare() -> Searched {
-    let mut searched = none_yet();
-    let mut i: u16 = 0;
-    while i < PAIRS {
-        searched = search((i / 8) as u8, (i % 8) as u8, searched);
-        i += 1;
-    }
-    searched
-}
-
-pub fn print_all(searched: Searched) -> bool {
-    show::print_with(
-        b"searches for the highest-ranked level, by turning and by steps: %, none found %, differences %\n",
-        searched.pairs,
-        searched.empty,
-        searched.differences,
-        0,
-    )
 }

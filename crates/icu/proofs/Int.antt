@@ -66,7 +66,7 @@ met : (x l n : ℕ) (b : Bool) → n < 8 → bit_of x (level_at l (rank_of l n))
 met x l n b h e = rw (level_rank l n h) at e
 
 -- nothing is asked for
-pub none_asked : (a s l : ℕ) → highest_of a l ≡ 8 → interrupts a s l ≡ false
+pub none_asked : (a s l : ℕ) → 8 ≡ highest_of a l → interrupts a s l ≡ false
 unfolding highest_of
 none_asked a s l e = quiet (search_from a l 0 8)
   where
@@ -107,7 +107,7 @@ module _ (a s l i : ℕ) (h : i < 8) (b : bit_of a (level_at l i) ≡ true) wher
     decided f e false u = beneath f (ltb-false _ _ u)
 
 -- something is asked for, and nothing is in service
-pub none_served : (a s l : ℕ) → (highest_of a l ≡ 8 → ⊥) → highest_of s l ≡ 8 → interrupts a s l ≡ true
+none_served : (a s l : ℕ) → (highest_of a l ≡ 8 → ⊥) → highest_of s l ≡ 8 → interrupts a s l ≡ true
 unfolding highest_of
 none_served a s l n e = free (search_from a l 0 8) (search_from s l 0 8)
   where
@@ -117,7 +117,7 @@ none_served a s l n e = free (search_from a l 0 8) (search_from s l 0 8)
     free (at i h g b f q) (none f' q') = alone a s l i g b f'
 
 -- both: the ranks decide
-pub by_rank : (a s l : ℕ) → (highest_of a l ≡ 8 → ⊥) → (highest_of s l ≡ 8 → ⊥) → interrupts a s l ≡ ltb (rank_of l (highest_of a l)) (rank_of l (highest_of s l))
+by_rank : (a s l : ℕ) → (highest_of a l ≡ 8 → ⊥) → (highest_of s l ≡ 8 → ⊥) → interrupts a s l ≡ ltb (rank_of l (highest_of a l)) (rank_of l (highest_of s l))
 unfolding highest_of
 by_rank a s l n m = ranked (search_from a l 0 8) (search_from s l 0 8)
   where
@@ -126,3 +126,18 @@ by_rank a s l n m = ranked (search_from a l 0 8) (search_from s l 0 8)
     ranked (at i h g b f q) (none f' q') = absurd (m q')
     ranked (at i h g b f q) (at j h' g' b' f' q') =
         rw (q, q', rank_level l i g, rank_level l j g') (decided a s l i g b j g' b' f f' (ltb i j) refl)
+
+-- the same of levels that were found
+module _ (a s l i : ℕ) (e : i ≡ highest_of a l) (h : i < 8) where
+  pub unopposed : 8 ≡ highest_of s l → interrupts a s l ≡ true
+  unopposed r = none_served a s l (λ p. omega arith) (sym r)
+
+  module _ (j : ℕ) (q : j ≡ highest_of s l) (k : j < 8) where
+    ranks : interrupts a s l ≡ ltb (rank_of l i) (rank_of l j)
+    ranks = rw (e, q) (by_rank a s l (λ r. omega arith) (λ r. omega arith))
+
+    pub higher : rank_of l i < rank_of l j → interrupts a s l ≡ true
+    higher r = ranks ∙ lt-ltb _ _ r
+
+    pub lower : rank_of l j ≤ rank_of l i → interrupts a s l ≡ false
+    lower r = ranks ∙ le-ltb _ _ r

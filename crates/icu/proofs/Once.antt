@@ -2,53 +2,50 @@
 use mathlib.Core.Path.{◌≡◌, refl, sym, ap, ◌∙◌}
 use lib.Dec.{eqb}
 use lib.ListN.{get_or}
-use Rattle.std.specs.Prelude.{if◌then◌else◌}
+use Rattle.std.specs.Prelude.{ℕ, Option, Some, None, Result, Ok, Err, if◌then◌else◌}
 use Rattle.icu.specs.declared.Icu.{Icu}
-use Rattle.icu.specs.declared.Written.{Written}
-use Rattle.icu.specs.declared.Written.TheVariants.{Taken, OutOfTurn, NotBuilt}
-use Rattle.icu.specs.declared.Got.{Got}
-use Rattle.icu.specs.declared.Got.TheVariants.{Shown, NotReady}
-use Rattle.icu.specs.declared.Acknowledged.{Acknowledged}
-use Rattle.icu.specs.declared.Acknowledged.TheVariants.{Vector, Call, Unready}
+use Rattle.icu.specs.declared.Refusal.{Refusal}
+use Rattle.icu.specs.declared.Refusal.TheVariants.{OutOfTurn, NotBuilt}
+use Rattle.icu.specs.declared.Named.{Named}
+use Rattle.icu.specs.declared.Named.TheVariants.{Vector, Call}
 use Rattle.icu.specs.Answers.{Told, written_as, got_as, acknowledged_as}
 
 -- the answer that tells this
-written_of : Told → Written
-written_of t = if eqb t.status 0 then Taken t.icu else if eqb t.status 3 then OutOfTurn else NotBuilt
+written_of : Told → Result Icu Refusal
+written_of t = if eqb t.status 0 then Ok t.icu else if eqb t.status 3 then Err OutOfTurn else Err NotBuilt
 
-got_of : Told → Got
-got_of t = if eqb t.status 0 then Shown t.byte else NotReady
+got_of : Told → Option ℕ
+got_of t = if eqb t.status 0 then Some t.byte else None
 
-acknowledged_of : Told → Acknowledged
+acknowledged_of : Told → Option (Icu × Named)
 acknowledged_of t =
     if eqb t.status 0 then
-    (if eqb (get_or t.payload 0 0) 205 then Call t.icu (get_or t.payload 1 0) (get_or t.payload 2 0)
-    else Vector t.icu t.byte)
-    else Unready
+    Some (t.icu, if eqb (get_or t.payload 0 0) 205 then Call (get_or t.payload 1 0) (get_or t.payload 2 0) else Vector t.byte)
+    else None
 
-written_back : (c : Icu) (r : Written) → written_of (written_as c r) ≡ r
+written_back : (c : Icu) (r : Result Icu Refusal) → written_of (written_as c r) ≡ r
 unfolding written_of
-written_back c (Taken d) = refl
-written_back c OutOfTurn = refl
-written_back c NotBuilt = refl
+written_back c (Ok d) = refl
+written_back c (Err OutOfTurn) = refl
+written_back c (Err NotBuilt) = refl
 
-got_back : (c : Icu) (r : Got) → got_of (got_as c r) ≡ r
+got_back : (c : Icu) (r : Option ℕ) → got_of (got_as c r) ≡ r
 unfolding got_of
-got_back c (Shown x) = refl
-got_back c NotReady = refl
+got_back c (Some x) = refl
+got_back c None = refl
 
-acknowledged_back : (c : Icu) (r : Acknowledged) → acknowledged_of (acknowledged_as c r) ≡ r
+acknowledged_back : (c : Icu) (r : Option (Icu × Named)) → acknowledged_of (acknowledged_as c r) ≡ r
 unfolding acknowledged_of
-acknowledged_back c (Vector d x) = refl
-acknowledged_back c (Call d low high) = refl
-acknowledged_back c Unready = refl
+acknowledged_back c (Some (d, Vector x)) = refl
+acknowledged_back c (Some (d, Call low high)) = refl
+acknowledged_back c None = refl
 
 module _ (c : Icu) where
-  pub one_written : (r s : Written) → written_as c r ≡ written_as c s → r ≡ s
+  pub one_written : (r s : Result Icu Refusal) → written_as c r ≡ written_as c s → r ≡ s
   one_written r s e = sym (written_back c r) ∙ ap written_of e ∙ written_back c s
 
-  pub one_got : (r s : Got) → got_as c r ≡ got_as c s → r ≡ s
+  pub one_got : (r s : Option ℕ) → got_as c r ≡ got_as c s → r ≡ s
   one_got r s e = sym (got_back c r) ∙ ap got_of e ∙ got_back c s
 
-  pub one_acknowledged : (r s : Acknowledged) → acknowledged_as c r ≡ acknowledged_as c s → r ≡ s
+  pub one_acknowledged : (r s : Option (Icu × Named)) → acknowledged_as c r ≡ acknowledged_as c s → r ≡ s
   one_acknowledged r s e = sym (acknowledged_back c r) ∙ ap acknowledged_of e ∙ acknowledged_back c s

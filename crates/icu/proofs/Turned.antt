@@ -1,29 +1,20 @@
 -- The search by turning: with the byte turned right so that the first rank is bit 0, the zero bits below the lowest one are the ranks above the level found.
 use mathlib.Core.Path.{◌≡◌, refl, ◌∙◌}
-use Prim.Native.Nat.{ℕ, zero, suc, ◌+◌, ◌*◌, ◌/◌, ◌%◌, ◌^◌, ◌<◌}
+use Prim.Native.Nat.{ℕ, zero, suc, ◌+◌, ◌%◌, ◌<◌}
 use native.Mathlib.Omega.{arith}
 use lib.Dec.{eqb}
-use lib.Count.{count_trailing_zeros, trailing_le}
+use borrow.Author.Tests.{ne_eqb}
+use lib.Count.{count_trailing_zeros}
 use Rattle.bits.specs.Choice.{every}
 use Rattle.std.specs.Prelude.{if◌then◌else◌}
+use Rattle.std.specs.Int.{w8, rotate_right}
 use Rattle.bits.specs.Bits.{bit_of}
 use Rattle.bits.proofs.Every.{agree}
 use Rattle.icu.specs.Ranks.{level_at, highest_from, highest_of}
 
--- x turned right by n bits: eight bits of x twice, side by side, from bit n on
-abbrev turned : ℕ → ℕ → ℕ
-turned x n = x * 257 / 2 ^ n % 256
-
--- a byte has at most eight zero bits: their number, and a level more, fit into a byte
-pub zeros_fit : (t : ℕ) → count_trailing_zeros 8 t < 256
-zeros_fit t = omega (arith, trailing_le 8 t)
-
-pub sum_fits : (n t : ℕ) → n < 8 → n + count_trailing_zeros 8 t < 256
-sum_fits n t h = omega (arith, trailing_le 8 t)
-
 -- what the code works out, where the lowest level is below 8
 abbrev by_turning : ℕ → ℕ → ℕ
-by_turning x l = if eqb x 0 then 8 else ((l + 1) % 8 + count_trailing_zeros 8 (turned x ((l + 1) % 8))) % 8
+by_turning x l = if eqb x 0 then 8 else ((l + 1) % 8 + count_trailing_zeros 8 (rotate_right w8 x ((l + 1) % 8))) % 8
 
 all : (x l : ℕ) → x < 256 → l < 8 → highest_of x l ≡ by_turning x l
 unfolding highest_of highest_from bit_of count_trailing_zeros every
@@ -38,6 +29,12 @@ within_8 x l k (suc left) = rw (same_level, within_8 x l (suc k) left)
     same_level : level_at l k ≡ level_at (l % 8) k
     same_level = omega arith
 
-pub by_turning_law : (x l : ℕ) → x < 256 → highest_of x l ≡ by_turning x (l % 8)
+by_turning_law : (x l : ℕ) → x < 256 → highest_of x l ≡ by_turning x (l % 8)
 unfolding highest_of
 by_turning_law x l h = within_8 x l 0 8 ∙ all x (l % 8) h (omega arith)
+
+pub none_set : (x l : ℕ) → x ≡ 0 → highest_of x l ≡ 8
+none_set x l e = rw e (by_turning_law 0 l (omega arith))
+
+pub found : (x l : ℕ) → x < 256 → (x ≡ 0 → ⊥) → highest_of x l ≡ ((l % 8 + 1) % 8 + count_trailing_zeros 8 (rotate_right w8 x ((l % 8 + 1) % 8))) % 8
+found x l h n = by_turning_law x l h ∙ rw (ne_eqb x 0 n)

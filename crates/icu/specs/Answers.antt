@@ -1,12 +1,10 @@
 -- What an operation of the chip tells: its status number, the chip afterwards, the data byte and the payload of its answer.
-use Rattle.std.specs.Prelude.{ℕ, List, [], ◌∷◌}
+use Rattle.std.specs.Prelude.{ℕ, List, [], ◌∷◌, Option, Some, None, Result, Ok, Err}
 use Rattle.icu.specs.declared.Icu.{Icu}
-use Rattle.icu.specs.declared.Written.{Written}
-use Rattle.icu.specs.declared.Written.TheVariants.{Taken, OutOfTurn, NotBuilt}
-use Rattle.icu.specs.declared.Got.{Got}
-use Rattle.icu.specs.declared.Got.TheVariants.{Shown, NotReady}
-use Rattle.icu.specs.declared.Acknowledged.{Acknowledged}
-use Rattle.icu.specs.declared.Acknowledged.TheVariants.{Vector, Call, Unready}
+use Rattle.icu.specs.declared.Refusal.{Refusal}
+use Rattle.icu.specs.declared.Refusal.TheVariants.{OutOfTurn, NotBuilt}
+use Rattle.icu.specs.declared.Named.{Named}
+use Rattle.icu.specs.declared.Named.TheVariants.{Vector, Call}
 
 pub record Told : Type 0 where
   pub status : ℕ
@@ -31,16 +29,20 @@ abbrev pub refused : ℕ → Icu → Told
 refused n c = record { status = n; icu = c; byte = 0; payload = [] }
 
 -- The numbers: 3 out of turn, 4 not built.
-abbrev pub written_as : Icu → Written → Told
-written_as c (Taken d) = done d
-written_as c OutOfTurn = refused 3 c
-written_as c NotBuilt = refused 4 c
+abbrev pub written_as : Icu → Result Icu Refusal → Told
+written_as c (Ok d) = done d
+written_as c (Err OutOfTurn) = refused 3 c
+written_as c (Err NotBuilt) = refused 4 c
 
-abbrev pub got_as : Icu → Got → Told
-got_as c (Shown x) = telling c x
-got_as c NotReady = refused 3 c
+abbrev pub got_as : Icu → Option ℕ → Told
+got_as c (Some x) = telling c x
+got_as c None = refused 3 c
 
-abbrev pub acknowledged_as : Icu → Acknowledged → Told
-acknowledged_as c (Vector d x) = telling d x
-acknowledged_as c (Call d low high) = calling d low high
-acknowledged_as c Unready = refused 3 c
+-- The chip d, with the bytes that name a level.
+abbrev pub named_as : Icu → Named → Told
+named_as d (Vector x) = telling d x
+named_as d (Call low high) = calling d low high
+
+abbrev pub acknowledged_as : Icu → Option (Icu × Named) → Told
+acknowledged_as c (Some t) = named_as t.0 t.1
+acknowledged_as c None = refused 3 c

@@ -1,5 +1,5 @@
 -- Ranks. With lowest level l they run l + 1, l + 2 and so on modulo 8, down to l itself.
-use Rattle.std.specs.Prelude.{ℕ, zero, suc, ◌+◌, ◌-◌, ◌%◌, Bool, ltb, if◌then◌else◌}
+use Rattle.std.specs.Prelude.{ℕ, zero, suc, ◌+◌, ◌-◌, ◌%◌, Bool, ltb, if◌then◌else◌, Option, Some, None}
 use Rattle.bits.specs.Bits.{bit_of}
 
 -- The level of rank k; rank 0 is the highest.
@@ -21,3 +21,8 @@ highest_from x l k (suc left) = if bit_of x (level_at l k) then level_at l k els
 
 unfoldable pub highest_of : ℕ → ℕ → ℕ
 highest_of x l = highest_from x l 0 8
+
+-- A level that was looked for, in the numbers of `highest_of`.
+abbrev pub level_or_8 : Option ℕ → ℕ
+level_or_8 (Some n) = n
+level_or_8 None = 8

@@ -1,5 +1,5 @@
 -- Acknowledging an interrupt, and reads.
-use Rattle.std.specs.Prelude.{ℕ, ◌+◌, ◌*◌, ◌/◌, ◌%◌, Bool, if◌then◌else◌}
+use Rattle.std.specs.Prelude.{ℕ, ◌+◌, ◌*◌, ◌/◌, ◌%◌, Bool, if◌then◌else◌, Option, Some, None}
 use Rattle.bits.specs.Bits.{with_of, without_of}
 use Rattle.icu.specs.declared.Icu.{Icu}
 use Rattle.icu.specs.Fields.{edges_is, isr_is, lowest_is}
@@ -18,6 +18,11 @@ served_of c n =
     if c.sfi then
     (if c.rotation then lowest_is n (edges_is (without_of c.edges n) c) else edges_is (without_of c.edges n) c)
     else isr_is (with_of c.isr n) (edges_is (without_of c.edges n) c)
+
+-- The chip once a level is taken, or none.
+abbrev pub served_by : Icu → Option ℕ → Icu
+served_by c (Some n) = served_of c n
+served_by c None = c
 
 -- Vector mode: the upper five bits of IW2, then the level.
 unfoldable pub vector_of : Icu → ℕ → ℕ

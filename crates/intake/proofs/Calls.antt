@@ -1,12 +1,13 @@
 -- A call by the number of its bytes: refused for want of room, or run.
 use mathlib.Core.Bool.{true, false}
-use mathlib.Core.Path.{◌≡◌, ap, ◌∙◌}
+use mathlib.Core.Path.{◌≡◌, refl, sym, ap, ◌∙◌}
 use mathlib.Core.List.{List, [], ◌∷◌, ◌++◌}
 use Prim.Native.Nat.{ℕ, ◌+◌, ◌*◌, ◌/◌, ◌%◌, ◌<◌, ◌≤◌}
 use native.Mathlib.Omega.{arith}
 use borrow.Author.Tests.{lt-ltb, le-ltb}
 use lib.ListN.{length, drop, get_or, get_or-eq_default}
 use Rattle.tape.specs.Records.{held_of}
+use Rattle.tape.proofs.Kept.{counted as tape_counted}
 use Rattle.board.specs.declared.Board.{Board}
 use Rattle.board.specs.Records.{after, fitting}
 use Rattle.intake.specs.Ranges.{in_range}
@@ -28,9 +29,12 @@ pub spoilt : (b : Board) (t : List ℕ) (room : ℕ) → in_range b ≡ false �
 unfolding taken
 spoilt b t room e = rw e
 
-module _ (b : Board) (t m a : List ℕ) (total : ℕ) (good : in_range b ≡ true) (all : total ≡ length (bytes_of b t)) (sum : total ≡ held_of b.kept.length + length t) where
+module _ (b : Board) (t m a : List ℕ) (total : ℕ) (good : in_range b ≡ true) (all : total ≡ length (bytes_of b t)) (seven : length b.kept.bytes ≡ 7) where
   both : total ≡ b.kept.length + length t
-  both = sum ∙ ap (λ (n : ℕ). n + length t) (all_held b good)
+  both =
+      all
+      ∙ sym (tape_counted b.kept.bytes b.kept.length seven (held_of b.kept.length) refl t)
+      ∙ ap (λ (n : ℕ). n + length t) (all_held b good)
 
   counted : total / 8 ≡ count_of b t
   counted = ap (λ (n : ℕ). n / 8) both

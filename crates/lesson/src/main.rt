@@ -5,62 +5,97 @@
 
 mod run;
 
-use reader::course::Course;
-use reader::{output, usage};
+use reader::course::{Course, Meant};
+use reader::output::Stop;
+use reader::source::Source;
+use reader::usage::Mode;
+use reader::{comments, filters, usage};
+use report::Exit;
 
 // The arguments are walked twice: what is used wrongly is found before anything is run.
 fn main(rt: HostRuntime) {
     let n = report::arg_count(&rt);
-    let checked = take_arguments(&rt, true, n);
-    if report::FAILED < checked {
-        sentences::print_usage();
-        report::end(checked);
-        return;
-    }
-    report::end(output::told(take_arguments(&rt, false, n)));
-}
-
-fn take_arguments(rt: &HostRuntime, checks: bool, n: usize) -> u8 {
-    let mut course = Course::start(rt, checks);
-    let mut i = 1;
-    while i < n {
-        course = take_argument(rt, course, i);
-        if report::FAILED < course.status {
-            return course.status;
+    let checked = walk(&rt, n, |meant, word| usage::check(&rt, meant, word));
+    let exit = match checked {
+        Ok(_) => walk(&rt, n, |meant, word| take(&rt, meant, word)).unwrap_or_else(|exit| exit),
+        Err(exit) => {
+            sentences::print_usage();
+            exit
         }
-        i += 1;
-    }
-    end_arguments(rt, course, n)
+    };
+    report::end(exit);
 }
 
-fn end_arguments(rt: &HostRuntime, course: Course, n: usize) -> u8 {
-    run_due(rt, course.end_command(rt), b"").end_status(n)
-}
-
-fn take_argument(rt: &HostRuntime, course: Course, i: usize) -> Course {
-    let mut word = io::buffer();
-    match report::arg(rt, i, &mut word) {
-        Ok(n) => {
-            let given = &word[..n];
-            run_due(rt, course.take_word(rt, given), given)
-        }
-        Err(e) => {
-            report::fail_with(b"lesson: an argument", &e);
-            course.with(report::USAGE)
+// Does something with each argument, of which there are n with the program's name, and at their end. Answers how the program would end then, or ends at once.
+fn walk<F: Fn(Meant, &[u8]) -> Result<(), Stop>>(
+    rt: &HostRuntime,
+    n: usize,
+    act: F,
+) -> Result<Exit, Exit>
+    requires { F.IsAlwaysCallable act }
+{
+    let mut course = Course::start();
+    let mut exit = Exit::Well;
+    for i in 1..n {
+        let mut word = io::buffer();
+        match report::arg(rt, i, &mut word) {
+            Ok(length) => {
+                let given = &word[..length];
+                exit = exit_after(exit, act(course.take_word(given), given))?;
+            }
+            Err(error) => {
+                report::fail_with(b"lesson: an argument", &error);
+                return Err(Exit::Usage);
+            }
         }
     }
+    exit = exit_after(exit, act(course.end(), b""))?;
+    if n < 2 {
+        return Err(Exit::Usage);
+    }
+    Ok(exit)
 }
 
-// What is due on the board: with the file that was given, or with standard input.
-fn run_due(rt: &HostRuntime, course: Course, given: &[u8]) -> Course {
-    let due = course.due;
-    if due == usage::FILE {
-        return course;
+fn exit_after(exit: Exit, done: Result<(), Stop>) -> Result<Exit, Exit> {
+    match done {
+        Ok(()) => Ok(exit),
+        Err(Stop::Text) => Ok(report::worse(exit, Exit::Failed)),
+        Err(Stop::Program(exit)) => Err(exit),
     }
-    if course.has_file {
-        let status = run::run_text(due, &course.source, given);
-        return course.end_text(rt, status);
+}
+
+fn take(rt: &HostRuntime, meant: Meant, word: &[u8]) -> Result<(), Stop> {
+    match meant {
+        Meant::File {
+            mode: Mode::Card,
+            ..
+        } => comments::print_card(word),
+        Meant::NoFile(Mode::Card) => comments::print_card(b""),
+        Meant::File { mode, .. } => match Source::open(rt, word) {
+            Ok(source) => take_text(rt, mode, &source, word),
+            Err(error) => {
+                report::fail_of(word, &error);
+                Err(Stop::Text)
+            }
+        },
+        Meant::NoFile(mode) => {
+            if mode.takes_one() {
+                let source = Source::input(rt);
+                take_text(rt, mode, &source, b"lesson: standard input")
+            } else {
+                Ok(())
+            }
+        }
+        Meant::Nothing => Ok(()),
     }
-    let status = run::run_text(due, &course.source, b"lesson: standard input");
-    course.end_text(rt, status)
+}
+
+// A text that is open.
+fn take_text(rt: &HostRuntime, mode: Mode, source: &Source, path: &[u8]) -> Result<(), Stop> {
+    match mode {
+        Mode::Assemble => filters::assemble(rt, source, path),
+        Mode::List => filters::list(source, path),
+        Mode::Explain => filters::explain(source, path),
+        _ => run::run(mode, source, path),
+    }
 }

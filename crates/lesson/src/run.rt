@@ -1,90 +1,43 @@
 // A lesson on the board: the desk says which record is due, and the board does it.
-ghost use Rattle.std.specs.Prelude.{◌≤◌};
-
-use board::{Board, Stepped};
-use desk::Desk;
+use board::Board;
+use desk::{Desk, Due};
 use reader::filters;
+use reader::output::Stop;
 use reader::source::Source;
+use reader::usage::Mode;
 use words::chips::Chips;
 
 // What the desk is shown of a board.
-fn chips_of(b: Board) -> Chips {
-    let icu = b.icu;
-    let slave = b.slave;
-    let timer = b.timer;
-    let dma = b.dma;
-    let c = timer.counters[0];
-    let lines = cascade::join(b.intp, slave, b.slaveintp) | c.out as u8;
+fn chips_of(board: Board) -> Chips {
+    let out0 = board.timer.counters[0].out;
+    let lines = cascade::join(board.intp, board.slave, board.slaveintp) | u8::from(out0);
     Chips {
-        icu: icu,
-        lines: lines,
-        passes: cascade::is_passed_on(icu, lines, slave),
-        slave: slave,
-        slaveintp: b.slaveintp,
-        timer: timer,
-        dma: dma,
+        icu: board.icu,
+        lines,
+        passes: cascade::is_passed_on(board.icu, lines, board.slave),
+        slave: board.slave,
+        slaveintp: board.slaveintp,
+        timer: board.timer,
+        dma: board.dma,
     }
 }
 
-fn least(a: usize, b: usize) -> usize
-    ensures { result ≤ b }
-{
-    if a < b {
-        return a;
-    }
-    b
-}
-
-// One record, over so many bytes of the memory.
-fn step(board: Board, r: [u8; 8], memory: &mut [u8; 65536], length: usize) -> Stepped {
-    step_over(board, r, memory, length)
-}
-
-fn step_over(board: Board, r: [u8; 8], memory: &mut [u8], length: usize) -> Stepped {
-    let n = least(length, memory.len());
-    board.step(r, &mut memory[0..n])
-}
-
-fn run(mode: u8, plain: bool, source: &Source, path: &[u8]) -> u8 {
-    let mut line = [0u8; 1000];
-    let mut lump = [0u8; 65536];
-    let mut memory = [0u8; 65536];
-    let mut marks = [0u8; 65536];
+pub(crate) fn run(mode: Mode, source: &Source, path: &[u8]) -> Result<(), Stop> {
+    let has_question = filters::prepare(mode, source, path)?;
     let mut board = Board::reset();
-    let mut desk = Desk::start(mode, plain);
-    let mut turns = u64::MAX;
-    while turns > 0 {
-        desk = desk.take(
-            chips_of(board),
-            source,
-            path,
-            &mut line,
-            &mut lump,
-            &mut memory,
-            &mut marks,
-        );
-        if desk.due == desk::RECORD {
-            let s = step(board, desk.record(&line), &mut memory, desk.lent() as usize);
-            let answer = s.answer;
-            let next = s.board;
-            desk = desk.tell(chips_of(board), chips_of(next), answer, &line, &mut marks);
-            board = next;
+    let mut desk = Desk::start(mode, has_question, source, path);
+    for _ in 0..u64::MAX {
+        match desk.take(chips_of(board))? {
+            Some(Due::Record(record)) => {
+                let before = chips_of(board);
+                let stepped = board.step(record, desk.memory());
+                board = stepped.board;
+                desk.tell(before, chips_of(board), stepped.answer)?;
+            }
+            Some(Due::Reset) => board = Board::reset(),
+            Some(Due::Nothing) => {}
+            None => return desk.end(),
         }
-        if desk.due == desk::RESET {
-            board = Board::reset();
-        }
-        if !desk.goes_on() {
-            return desk.end(&memory, &marks);
-        }
-        turns -= 1;
     }
-    report::FAILED
-}
-
-pub fn run_text(mode: u8, source: &Source, path: &[u8]) -> u8 {
-    let ready = filters::prepare(mode, source, path);
-    if ready.status != report::WELL {
-        return ready.status;
-    }
-    run(mode, 0 < ready.questions, source, path)
+    Err(Stop::Text)
 }

@@ -1,315 +1,295 @@
 // What an answer is expected to be: items after an equals sign, or after the words expect and guess.
-use crate::line::Parsed;
-use crate::word::Word;
-use crate::{line, word};
+ghost use Rattle.std.specs.Prelude.{◌+◌, ◌<◌, ◌≤◌, ◌≡◌, ◌↔◌, IsTrue, length};
+ghost use Rattle.notation.specs.Answers.{whole_of};
 
-// What is expected at a column, by the number of its sentence.
-const ITEM: u8 = 21;
+use crate::fault::{Bad, Fault};
+use crate::word::{Base, Span, Word, Words};
 
-const TWICE: u8 = 22;
-
-const STATUS: u8 = 23;
-
-const CALL: u8 = 24;
-
-const OUTS: u8 = 25;
-
-const INT: u8 = 26;
-
-const RISES: u8 = 27;
-
-const CHANNEL: u8 = 28;
-
-const ADDRESS: u8 = 29;
-
-const EXPECTED: u8 = 35;
-
-const UPPER: u8 = 40;
-
-const NOT_OF: u8 = 48;
-
-// After the equals sign: a question mark alone, or items.
-pub fn take(line: &[u8; 1000], n: usize, mut p: Parsed) -> Parsed {
-    let w = word::next_word(line, n, p.at);
-    if word::which(b"? ", line, w.start, w.end) == 0 {
-        p.at = w.end;
-        p.check = Parsed::ASKED;
-        p.wrong = line::NOTHING;
-        return line::close(line, n, p);
-    }
-    take_items(line, n, p)
+// What a line says of an answer: its bytes, in the bits that are meant, and where that is said.
+#[derive(Clone, Copy, PartialEq, Eq)]
+pub struct Expected {
+    pub bytes: [u8; 16],
+    pub mask: [u8; 16],
+    pub said: Span,
 }
 
-// Items up to a colon, a comment or the end of the line.
-pub fn take_items(line: &[u8; 1000], n: usize, mut p: Parsed) -> Parsed {
-    let first = word::next_word(line, n, p.at);
-    p.check = Parsed::SAID;
-    p.said = first.start;
-    let mut turns: usize = 0;
-    while turns < 1000 {
-        let w = word::next_word(line, n, p.at);
-        if (w.start == w.end) | (word::byte_at(line, w.start) == b':') {
-            return end_items(line, w, p, turns);
+impl Expected {
+    // Every answer is such.
+    pub const NONE: Expected = Expected {
+        bytes: [0; 16],
+        mask: [0; 16],
+        said: Span::NONE,
+    };
+
+    // Whether an answer is as expected, in the bits that are meant.
+    pub fn is_met(&self, answer: [u8; 16]) -> bool {
+        answer
+            .iter()
+            .zip(&self.bytes)
+            .zip(&self.mask)
+            .all(|((is, meant), mask)| (is ^ meant) & mask == 0)
+    }
+
+    // Whether another line expects just this.
+    pub fn is_same(&self, other: &Expected) -> bool
+        ensures { IsTrue result ↔ (self.now.bytes ≡ other.now.bytes × self.now.mask ≡ other.now.mask) }
+    {
+        self.bytes == other.bytes && self.mask == other.mask
+    }
+
+    // In a chart every byte of an answer is meant, and byte 1 is the record's operation.
+    pub fn whole(mut self, operation: u8) -> Expected
+        ensures { result ≡ whole_of self operation }
+    {
+        self.bytes[1] = operation;
+        self.mask = [255; 16];
+        self
+    }
+
+    // Bytes of the answer, from a place on. These bits of each are meant.
+    fn say(&mut self, place: usize, bytes: &[u8], bits: u8)
+        requires { place + length bytes.now ≤ 16 }
+    {
+        for (k, byte) in bytes.iter().enumerate() {
+            self.bytes[place + k] |= *byte;
+            self.mask[place + k] |= bits;
         }
-        p = take_item(line, n, p, w);
-        if p.kind == Parsed::BAD {
-            return p;
+    }
+}
+
+// What is expected of the answer to a record: nothing; the learner is asked for it; or it is said.
+#[derive(Clone, Copy, PartialEq, Eq)]
+pub enum Check {
+    Unchecked,
+    Asked,
+    Said(Expected),
+}
+
+// Whose answer items are about: that to a record with this operation; that which stands now, of which only levels may be expected; or one that was guessed, which may be anything.
+#[derive(Clone, Copy)]
+pub(crate) enum Whose {
+    Record(u8),
+    Now,
+    Guess,
+}
+
+impl Whose {
+    // What is expected where no item stands.
+    fn expected(self) -> Fault {
+        match self {
+            Whose::Now => Fault::Expected,
+            _ => Fault::Item,
         }
-        p.end = p.at;
-        turns += 1;
     }
-    p
-}
 
-// There is at least one, and a colon ends those of a guess alone. Where nothing is said of the status, a record is done.
-fn end_items(line: &[u8; 1000], w: Word, mut p: Parsed, items: usize) -> Parsed {
-    let kind = p.kind;
-    if (0 < items) & ((w.start == w.end) | (kind == Parsed::GUESS)) {
-        p.mask[0] = 255;
-        return p;
-    }
-    let wrong = match kind {
-        Parsed::EXPECT => EXPECTED,
-        _ => ITEM,
-    };
-    line::bad_word(line, w, wrong)
-}
-
-const THE_OUT: u8 = 3;
-
-const THE_INT: u8 = 4;
-
-const THE_UNIT: u8 = 9;
-
-const NO_ITEM: u8 = 14;
-
-const THE_BYTE: u8 = 15;
-
-// The byte of the answer that an item is about first, and what that is if no number follows.
-fn place_of(item: u8) -> usize {
-    match item {
-        0 => 0,
-        1 => 0,
-        THE_OUT => 3,
-        THE_INT => 3,
-        10 => 6,
-        11 => 7,
-        12 => 12,
-        13 => 13,
-        THE_BYTE => 2,
-        _ => 4,
+    // What is wrong with an item, if anything is.
+    fn fault(self, item: Item) -> Option<Fault> {
+        match self {
+            Whose::Now if !matches!(item, Item::Out | Item::Int) => Some(Fault::Expected),
+            Whose::Record(operation) if !item.is_of(operation) => Some(Fault::NotOf),
+            _ => None,
+        }
     }
 }
 
-// A CALL starts with CD.
-fn value_of(item: u8, byte: u8) -> u8 {
-    match item {
-        2 => 0xcd,
-        7 => 1,
-        8 => 3,
-        THE_UNIT => 2,
-        10 => 1,
-        11 => 1,
-        12 => 1,
-        THE_BYTE => byte,
-        _ => 0,
+#[derive(Clone, Copy)]
+enum Item {
+    Done,
+    Refused,
+    Byte(u8),
+    Out,
+    Int,
+    Call,
+    Rises,
+    Nothing,
+    Grant,
+    Leave,
+    Unit,
+    End,
+    Free,
+    Outside,
+    Upper,
+}
+
+impl Item {
+    fn of(word: Word<'_>) -> Option<Item> {
+        Some(match word.text {
+            b"done" => Item::Done,
+            b"refused" => Item::Refused,
+            b"out" => Item::Out,
+            b"int" => Item::Int,
+            b"call" => Item::Call,
+            b"rises" => Item::Rises,
+            b"nothing" => Item::Nothing,
+            b"grant" => Item::Grant,
+            b"leave" => Item::Leave,
+            b"unit" => Item::Unit,
+            b"end" => Item::End,
+            b"free" => Item::Free,
+            b"outside" => Item::Outside,
+            b"upper" => Item::Upper,
+            _ => Item::Byte(word.byte()?),
+        })
+    }
+
+    // Whether the answer to a record with this operation can have it. A byte is of the answer to a read, an acknowledge and a cycle; most items are of a cycle alone.
+    fn is_of(self, operation: u8) -> bool {
+        match self {
+            Item::Done | Item::Refused | Item::Out | Item::Int => true,
+            Item::Byte(_) => matches!(operation, 2 | 4 | 6),
+            Item::Call => operation == 4,
+            Item::Rises => operation == 5,
+            _ => operation == 6,
+        }
+    }
+
+    // The byte of the answer that it is about first, which bits of it, and what they are if no number follows.
+    fn part(self) -> (usize, u8, u8)
+        ensures { result.0 < 16 }
+    {
+        match self {
+            Item::Done | Item::Refused => (0, 255, 0),
+            Item::Byte(byte) => (2, 255, byte),
+            Item::Out => (3, 7, 0),
+            Item::Int => (3, 8, 0),
+            // a CALL starts with CD
+            Item::Call => (4, 255, 0xcd),
+            Item::Rises | Item::Nothing => (4, 255, 0),
+            Item::Grant => (4, 255, 1),
+            Item::Unit => (4, 255, 2),
+            Item::Leave => (4, 255, 3),
+            Item::End => (6, 255, 1),
+            Item::Free => (7, 255, 1),
+            Item::Outside => (12, 255, 1),
+            Item::Upper => (13, 255, 0),
+        }
     }
 }
 
-// What is wrong with an item, where these bits of its byte were said before; 0 if nothing is. Only levels may be expected by themselves, and of a record what its answer can have; what was guessed may be anything.
-fn fault(kind: u8, op: u8, item: u8, before: u8) -> u8 {
-    let wrong = match kind {
-        Parsed::EXPECT => match item {
-            THE_OUT => 0,
-            THE_INT => 0,
-            _ => EXPECTED,
-        },
-        _ => match item {
-            NO_ITEM => ITEM,
-            _ => match kind {
-                Parsed::GUESS => 0,
-                _ => fault_of_answer(op, item),
-            },
-        },
-    };
-    if (wrong == 0) & (before != 0) {
-        return TWICE;
+// After the equals sign of a record: a question mark alone, or items.
+pub(crate) fn take(words: &mut Words<'_>, operation: u8) -> Result<Check, Bad> {
+    if words.take_word(b"?") {
+        words.close(Fault::Nothing)?;
+        return Ok(Check::Asked);
     }
-    wrong
+    Ok(Check::Said(take_items(words, Whose::Record(operation))?))
 }
 
-// A byte is of the answer to a read, an acknowledge and a cycle; most items are of a cycle alone.
-fn fault_of_answer(op: u8, item: u8) -> u8 {
-    let own = match item {
-        0 => op,
-        1 => op,
-        2 => 4,
-        THE_OUT => op,
-        THE_INT => op,
-        5 => 5,
-        THE_BYTE => match op {
-            2 => 2,
-            4 => 4,
-            _ => 6,
-        },
-        _ => 6,
-    };
-    if op == own {
-        return 0;
+// Items up to a comment or the end of the line; a colon ends those of a guess. There is at least one. Where nothing is said of the status, a record is done.
+pub(crate) fn take_items(words: &mut Words<'_>, whose: Whose) -> Result<Expected, Bad> {
+    let mut expected = Expected::NONE;
+    let left = words.left();
+    // each has at least a byte
+    for _ in left.from..left.to {
+        let mut after = *words;
+        match after.next() {
+            Some(word) if !word.is(b":") => {
+                *words = after;
+                take_item(words, word, whose, &mut expected)?;
+                expected.said = Span {
+                    from: left.from,
+                    to: words.at(),
+                };
+            }
+            _ => break,
+        }
     }
-    NOT_OF
+    if expected.said.is_empty() {
+        return Err(words.bad(whose.expected()));
+    }
+    if !matches!(whose, Whose::Guess) {
+        words.close(whose.expected())?;
+    }
+    expected.mask[0] = 255;
+    Ok(expected)
 }
 
-fn take_item(line: &[u8; 1000], n: usize, mut p: Parsed, w: Word) -> Parsed {
-    // the items by number
-    let mut item = word::which(
-        b"done refused call out int rises nothing grant leave unit end free outside upper ",
-        line,
-        w.start,
-        w.end,
-    );
-    if w.kind == Word::BYTE {
-        item = THE_BYTE;
+fn take_item(
+    words: &mut Words<'_>,
+    word: Word<'_>,
+    whose: Whose,
+    expected: &mut Expected,
+) -> Result<(), Bad> {
+    let item = Item::of(word).ok_or(word.bad(whose.expected()))?;
+    let (place, bits, value) = item.part();
+    if let Some(fault) = whose.fault(item) {
+        return Err(word.bad(fault));
     }
-    // the bits of its byte that it is about
-    let bits = match item {
-        THE_OUT => 7,
-        THE_INT => 8,
-        _ => 255,
-    };
-    let place = place_of(item) % 16;
-    let wrong = fault(p.kind, p.bytes[0], item, p.mask[place] & bits);
-    if wrong != 0 {
-        return line::bad_word(line, w, wrong);
+    if expected.mask[place] & bits != 0 {
+        return Err(word.bad(Fault::Twice));
     }
-    p.at = w.end;
-    p.number = value_of(item, w.byte) as u32;
-    take_value(line, n, expect(p, place, place + 1, bits), item)
-}
-
-// The number of a line, in the bytes of the answer from a place to another, little end first. These bits of each are meant.
-fn expect(mut p: Parsed, from: usize, to: usize, bits: u8) -> Parsed {
-    if p.kind == Parsed::BAD {
-        return p;
-    }
-    let mut rest = p.number;
-    let mut i = from;
-    while i < to {
-        let k = i % 16;
-        p.expected[k] = p.expected[k] | (rest % 256) as u8;
-        p.mask[k] = p.mask[k] | bits;
-        rest = rest / 256;
-        i += 1;
-    }
-    p
+    expected.say(place, &[value], bits);
+    take_value(words, item, expected)
 }
 
 // What follows the word of an item.
-fn take_value(line: &[u8; 1000], n: usize, p: Parsed, item: u8) -> Parsed {
+fn take_value(words: &mut Words<'_>, item: Item, expected: &mut Expected) -> Result<(), Bad> {
     match item {
-        1 => expect(line::take_number(line, n, p, 16, 1, 6, STATUS), 0, 1, 255),
-        2 => take_call(line, n, p),
-        THE_OUT => take_outs(line, n, p),
-        THE_INT => take_int(line, n, p),
-        5 => take_rises(line, n, p),
-        7 | 8 | THE_UNIT => take_channel(line, n, p, item),
-        13 => expect(
-            line::take_number(line, n, p, 16, 0, 255, UPPER),
-            13,
-            14,
-            255,
-        ),
-        _ => p,
+        Item::Refused => {
+            let status = words.small(Base::Sixteen, 1, 6, Fault::Status)?;
+            expected.say(0, &[status], 255);
+        }
+        Item::Out => {
+            let outs = words.expect(Fault::Outs, |w| outs(w.text))?;
+            expected.say(3, &[outs], 7);
+        }
+        Item::Int => {
+            let level = words.small(Base::Ten, 0, 1, Fault::Int)?;
+            expected.say(3, &[level << 3], 8);
+        }
+        Item::Call => {
+            let address = words.expect(Fault::Call, |w| address_of_call(w))?;
+            expected.say(5, &address.to_le_bytes(), 255);
+        }
+        Item::Rises => {
+            let first = words.number(Base::Ten, 0, 65535, Fault::Rises)?;
+            expected.say(4, &first.to_le_bytes(), 255);
+            expected.say(8, &take_rise(words).to_le_bytes(), 255);
+            expected.say(12, &take_rise(words).to_le_bytes(), 255);
+        }
+        Item::Grant | Item::Leave | Item::Unit => {
+            let channel = words.small(Base::Ten, 0, 3, Fault::Channel)?;
+            expected.say(5, &[channel], 255);
+            if let Item::Unit = item {
+                let address = words.number(Base::Sixteen, 0, 0xffffff, Fault::Address)?;
+                expected.say(8, &address.to_le_bytes(), 255);
+            }
+        }
+        Item::Upper => {
+            let upper = words.small(Base::Sixteen, 0, 255, Fault::Upper)?;
+            expected.say(13, &[upper], 255);
+        }
+        _ => {}
     }
-}
-
-// The address of a CALL, in four digits. (No word starts past 999.)
-fn take_call(line: &[u8; 1000], n: usize, p: Parsed) -> Parsed {
-    let w = word::next_word(line, n, p.at);
-    if w.start % 1000 + 4 == w.end {
-        return expect(line::take_number(line, n, p, 16, 0, 65535, CALL), 5, 7, 255);
-    }
-    line::bad_word(line, w, CALL)
+    Ok(())
 }
 
 // Three digits, the first for OUT0.
-fn take_outs(line: &[u8; 1000], n: usize, mut p: Parsed) -> Parsed {
-    let w = word::next_word(line, n, p.at);
-    let outs = word::which(b"000 100 010 110 001 101 011 111 ", line, w.start, w.end);
-    if 7 < outs {
-        return line::bad_word(line, w, OUTS);
+fn outs(text: &[u8]) -> Option<u8> {
+    Some(match text {
+        b"000" => 0,
+        b"100" => 1,
+        b"010" => 2,
+        b"110" => 3,
+        b"001" => 4,
+        b"101" => 5,
+        b"011" => 6,
+        b"111" => 7,
+        _ => return None,
+    })
+}
+
+// The address of a CALL, in four digits.
+fn address_of_call(word: Word<'_>) -> Option<u16> {
+    if word.text.len() != 4 {
+        return None;
     }
-    p.at = w.end;
-    p.number = outs as u32;
-    expect(p, 3, 4, 7)
+    u16::try_from(word.number(Base::Sixteen)?).ok()
 }
 
-fn take_int(line: &[u8; 1000], n: usize, p: Parsed) -> Parsed {
-    let mut next = line::take_number(line, n, p, 10, 0, 1, INT);
-    next.number = next.number % 2 * 8;
-    expect(next, 3, 4, 8)
-}
-
-// One to three numbers; those that are left out are 0.
-fn take_rises(line: &[u8; 1000], n: usize, p: Parsed) -> Parsed {
-    let first = line::take_number(line, n, p, 10, 0, 65535, RISES);
-    if first.kind == Parsed::BAD {
-        return first;
-    }
-    let second = take_rise(line, n, expect(first, 4, 8, 255));
-    let third = take_rise(line, n, expect(second, 8, 12, 255));
-    expect(third, 12, 16, 255)
-}
-
-// A number more, if one stands there.
-fn take_rise(line: &[u8; 1000], n: usize, mut p: Parsed) -> Parsed {
-    let w = word::next_word(line, n, p.at);
-    let v = word::number(line, w, 10);
-    p.number = 0;
-    if v < 65536 {
-        p.number = (v % 65536) as u32;
-        p.at = w.end;
-    }
-    p
-}
-
-// A unit has an address besides.
-fn take_channel(line: &[u8; 1000], n: usize, p: Parsed, item: u8) -> Parsed {
-    let next = expect(line::take_number(line, n, p, 10, 0, 3, CHANNEL), 5, 6, 255);
-    if (item != THE_UNIT) | (next.kind == Parsed::BAD) {
-        return next;
-    }
-    expect(
-        line::take_number(line, n, next, 16, 0, 16777215, ADDRESS),
-        8,
-        12,
-        255,
-    )
-}
-
-// Whether an answer is as expected, in the bits that are meant.
-pub fn is_met(answer: [u8; 16], expected: [u8; 16], mask: [u8; 16]) -> bool {
-    let mut apart = 0;
-    let mut i = 0;
-    while i < 16 {
-        apart = apart | (answer[i] ^ expected[i]) & mask[i];
-        i += 1;
-    }
-    apart == 0
-}
-
-// In a chart every byte of an answer is meant, and byte 1 is the record's operation.
-pub fn whole(mut p: Parsed) -> Parsed {
-    p.check = Parsed::SAID;
-    p.expected[1] = p.bytes[0];
-    p.mask = [255u8; 16];
-    p
-}
-
-// Whether a line expects just this.
-pub fn is_same(expected: [u8; 16], mask: [u8; 16], p: Parsed) -> bool {
-    let all = [255u8; 16];
-    let x = p.expected;
-    let y = p.mask;
-    is_met(expected, x, all) && is_met(mask, y, all)
+// A number more, if one stands there: one to three come, and those that are left out are 0.
+fn take_rise(words: &mut Words<'_>) -> u32 {
+    words
+        .take(|w| w.number(Base::Ten).filter(|v| *v < 65536))
+        .unwrap_or(0)
 }

@@ -2,6 +2,8 @@
 #![tactic(auto)]
 
 pub mod check;
+pub mod fault;
 pub mod line;
 pub mod place;
+pub mod record;
 pub mod word;

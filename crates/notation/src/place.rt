@@ -1,5 +1,7 @@
 // Where a line stands among the others, and whether it may stand there.
-use crate::line::Parsed;
+use crate::check::Check;
+use crate::fault::{Bad, Fault};
+use crate::line::{Parsed, What};
 
 #[derive(Clone, Copy)]
 pub struct Place {
@@ -15,19 +17,6 @@ pub struct Place {
     pub checked: bool,
 }
 
-// What is wrong with where a line stands, by the number of its sentence.
-const LATE: u8 = 41;
-
-const PAST: u8 = 42;
-
-const UNCHECKED: u8 = 43;
-
-const TYPED: u8 = 44;
-
-const CHART: u8 = 45;
-
-const ASKED: u8 = 46;
-
 // What a chart lends where it does not say, and the most that it may.
 pub const CHART_MEMORY: u32 = 256;
 
@@ -37,7 +26,7 @@ pub const LESSON_MEMORY: u32 = 65536;
 impl Place {
     pub fn start(typed: bool) -> Place {
         Place {
-            typed: typed,
+            typed,
             chart: false,
             records: 0,
             lent: LESSON_MEMORY,
@@ -45,77 +34,66 @@ impl Place {
         }
     }
 
-    // The line itself, or a bad one if it may not stand here.
-    pub fn judge(self, p: Parsed) -> Parsed {
-        let kind = p.kind;
-        let late = 0 < self.records;
-        let past = (self.lent as u64) < p.number as u64 + p.length as u64;
-        let wrong = match kind {
-            Parsed::MEMORY => first_fault(late, past, PAST),
-            Parsed::EXPECT_MEMORY => fault_if(past, PAST),
-            Parsed::LEND => first_fault(late, self.chart & (CHART_MEMORY < p.number), CHART),
-            Parsed::GUESS => fault_if(!self.checked, UNCHECKED),
-            Parsed::CARD => fault_if(!self.typed, TYPED),
-            Parsed::AGAIN => fault_if(!self.typed, TYPED),
-            Parsed::RECORD => fault_if(self.typed & (p.check == Parsed::ASKED), ASKED),
-            _ => 0,
-        };
-        if wrong == 0 {
-            return p;
+    // The line itself, or why it may not stand here.
+    pub fn judge(self, parsed: Parsed) -> Result<Parsed, Bad> {
+        match self.fault(&parsed.what) {
+            Some(fault) => Err(Bad::at(0, fault)),
+            None => Ok(parsed),
         }
-        Parsed::bad(0, wrong, [0u8; 8])
+    }
+
+    fn fault(self, what: &What) -> Option<Fault> {
+        // memory is set, and its length too, before the first record
+        let late = self.records > 0;
+        let faults = |wrong: bool, fault: Fault| wrong.then_some(fault);
+        match *what {
+            What::Memory(_) | What::Lend(_) if late => Some(Fault::Late),
+            What::Memory(memory) | What::ExpectMemory(memory) => {
+                faults(memory.is_past(self.lent), Fault::Past)
+            }
+            What::Lend(length) => faults(self.chart && length > CHART_MEMORY, Fault::Chart),
+            What::Guess(_) => faults(!self.checked, Fault::Unchecked),
+            What::Card(_) | What::Again => faults(!self.typed, Fault::Typed),
+            What::Record(record) => faults(
+                self.typed && record.check == Check::Asked,
+                Fault::Asked,
+            ),
+            _ => None,
+        }
     }
 
     // The place of the line after a bad one, which may have had a check.
-    pub fn after_bad(mut self) -> Place {
-        self.checked = true;
-        self
+    pub fn after_bad(self) -> Place {
+        Place {
+            checked: true,
+            ..self
+        }
     }
 
     // The place of the line after a good one.
-    pub fn after(mut self, p: Parsed) -> Place {
-        let kind = p.kind;
-        match kind {
-            Parsed::EMPTY => self,
-            Parsed::GUESS => self,
-            Parsed::LEND => {
-                self.lent = p.number;
-                self
-            }
-            Parsed::CHART => Place {
-                typed: self.typed,
+    pub fn after(self, parsed: &Parsed) -> Place {
+        match parsed.what {
+            What::Empty | What::Guess(_) => self,
+            What::Lend(lent) => Place { lent, ..self },
+            What::Chart(_) => Place {
                 chart: true,
-                records: 0,
                 lent: CHART_MEMORY,
-                checked: false,
+                ..Place::start(self.typed)
             },
-            Parsed::AGAIN => Place::start(self.typed),
-            Parsed::RECORD => {
-                if self.records < u64::MAX {
-                    self.records += 1;
-                }
-                self.checked = 0 < p.check;
-                self
-            }
-            _ => {
-                self.checked = 0 < p.check;
-                self
-            }
+            What::Again => Place::start(self.typed),
+            What::Record(record) => Place {
+                records: self.records.saturating_add(1),
+                checked: record.check != Check::Unchecked,
+                ..self
+            },
+            What::Expect(_) => Place {
+                checked: true,
+                ..self
+            },
+            What::Memory(_) | What::ExpectMemory(_) | What::Show(_) | What::Card(_) => Place {
+                checked: false,
+                ..self
+            },
         }
     }
-}
-
-// What is wrong with a line that stands before the first record, 0 if nothing is.
-fn first_fault(late: bool, wrong: bool, sentence: u8) -> u8 {
-    if late {
-        return LATE;
-    }
-    fault_if(wrong, sentence)
-}
-
-fn fault_if(wrong: bool, sentence: u8) -> u8 {
-    if wrong {
-        return sentence;
-    }
-    0
 }

@@ -1,292 +1,328 @@
 // The words of a line: where they stand, and what they are.
-ghost use Rattle.std.specs.Prelude.{◌<◌};
+ghost use Rattle.std.specs.Iterator.{at_most};
+ghost use Rattle.std.specs.Prelude.{◌+◌, ◌-◌, ◌<◌, ◌≤◌, ◌^◌, ◌≡◌, IfSome, drop, length, nat_le, take};
+ghost use Rattle.notation.specs.Lines.{bytes_of};
 
-// A word of the line.
+use crate::fault;
+use crate::fault::{Bad, Fault};
+
+// Some bytes of a line: where they start, and where they end.
+#[derive(Clone, Copy, PartialEq, Eq)]
+pub struct Span {
+    pub from: usize,
+    pub to: usize,
+}
+
+impl Span {
+    pub const NONE: Span = Span { from: 0, to: 0 };
+
+    pub fn is_empty(self) -> bool
+        ensures { result ≡ nat_le self.to self.from }
+    {
+        self.to <= self.from
+    }
+
+    // The bytes themselves; none where the line has not so many.
+    pub fn of(self, line: &[u8]) -> &[u8]
+        ensures part { self.from ≤ self.to → self.to ≤ length line.now → result.now ≡ take (self.to - self.from) (drop self.from line.now) }
+        ensures value { result.now ≡ bytes_of self line.now }
+    {
+        line.get(self.from..self.to).unwrap_or(&[])
+    }
+}
+
+fn is_plain(byte: &u8) -> bool {
+    (32..=126).contains(byte)
+}
+
+// What the digits of a number count by.
 #[derive(Clone, Copy)]
-pub struct Word {
-    pub start: usize,
-    // the same where the line has ended, or only a comment is left
-    pub end: usize,
-    pub kind: u8,
-    // what a byte in one or two hexadecimal digits is
-    pub byte: u8,
+pub(crate) enum Base {
+    Ten,
+    Sixteen,
 }
 
-impl Word {
-    pub const OTHER: u8 = 0;
-
-    pub const BYTE: u8 = 1;
-
-    // in double quotes
-    pub const TEXT: u8 = 2;
-
-    // a text with nothing in it, with no quote at its end, or with a byte that is no plain character
-    pub const BAD_TEXT: u8 = 3;
-
-    // an equals sign or a colon, which is a word by itself
-    pub const SIGN: u8 = 4;
-
-    fn new(start: usize, end: usize, kind: u8, byte: u8) -> Word {
-        Word {
-            start: start,
-            end: end,
-            kind: kind,
-            byte: byte,
+impl Base {
+    fn radix(self) -> u32
+        ensures { (2 ≤ result) × (result ≤ 36) }
+    {
+        match self {
+            Base::Ten => 10,
+            Base::Sixteen => 16,
         }
     }
 }
 
-// What is looked for in a line: where a word starts, where it ends, a quote, a carriage return, or a byte that is no plain character.
-const WORD: u8 = 0;
-
-const WORD_END: u8 = 1;
-
-const QUOTE: u8 = 2;
-
-const RETURN: u8 = 3;
-
-const STRANGE: u8 = 4;
-
-// A comment starts where a word may, and ends one.
-fn is_such(b: u8, sought: u8) -> bool {
-    match sought {
-        WORD => (b != b' ') & (b != b'\t'),
-        WORD_END => match b {
-            b' ' | b'\t' | b'#' | b'=' | b':' => true,
-            _ => false,
-        },
-        QUOTE => b == b'"',
-        RETURN => b == b'\r',
-        _ => (b < 32) | (126 < b),
-    }
-}
-
-// The first byte, from start to end, that is such as is looked for; end where there is none.
-fn find(line: &[u8; 1000], start: usize, end: usize, sought: u8) -> usize {
-    let mut i = start;
-    while i < 1000 {
-        if end <= i {
-            return end;
-        }
-        if is_such(line[i], sought) {
-            return i;
-        }
-        i += 1;
-    }
-    end
-}
-
-// The first byte, from start to end, that is no plain character; end where there is none.
-pub fn find_strange(line: &[u8; 1000], start: usize, end: usize) -> usize {
-    find(line, start, end, STRANGE)
-}
-
-pub fn find_return(line: &[u8; 1000], end: usize) -> usize {
-    find(line, 0, end, RETURN)
-}
-
-// Which word of a list stands in s from start to end, counted from 0; how many there are where none does. In the list a space follows each.
-pub fn which(list: &[u8], s: &[u8], start: usize, end: usize) -> u8 {
-    let mut n: u8 = 0;
-    let mut at = start;
-    let mut i = 0;
-    while i < list.len() {
-        let c = list[i];
-        i += 1;
-        if c == b' ' {
-            if at == end {
-                return n;
-            }
-            if n < 255 {
-                n += 1;
-            }
-            at = start;
-            continue;
-        }
-        at = after(s, at, end, c);
-    }
-    n
-}
-
-// The place after `at` if the byte there is c; else one that no word ends at.
-fn after(s: &[u8], at: usize, end: usize, c: u8) -> usize {
-    if at < end && at < s.len() && s[at] == c {
-        return at + 1;
-    }
-    usize::MAX
-}
-
-// A hexadecimal digit's value, 16 for any other character.
-pub fn digit(b: u8) -> u8
-    ensures { result < 17 }
-{
-    // in lower case, if it is a letter
-    let letter = b | 32;
-    match b {
-        b'0'..=b'9' => b - b'0',
-        _ => match letter {
-            b'a'..=b'f' => letter - 87,
-            _ => 16,
-        },
-    }
-}
-
-pub fn byte_at(line: &[u8; 1000], i: usize) -> u8 {
-    if i < 1000 {
-        return line[i];
-    }
-    0
-}
-
-// Past every number that a line may have.
-pub const NONE: u64 = u64::MAX;
-
-// A word of digits, in base 10 or 16, as a number: every one of 32 bits, and some more. NONE for anything else.
-pub fn number(line: &[u8; 1000], w: Word, base: u8) -> u64 {
-    let end = w.end;
-    let mut i = w.start;
-    if end <= i {
-        return NONE;
-    }
-    let mut v: u64 = 0;
-    while i < end {
-        v = append(v, base, digit(byte_at(line, i)));
-        i += 1;
-    }
-    v
-}
-
-// A number with a digit more, or NONE, which stays so.
-fn append(v: u64, base: u8, d: u8) -> u64 {
-    if 429496729 < v || base <= d {
-        return NONE;
-    }
-    match base {
-        10 => v * 10 + d as u64,
-        _ => v * 16 + d as u64,
-    }
-}
-
-// The next word of a line of n bytes, from a place on.
-pub fn next_word(line: &[u8; 1000], n: usize, at: usize) -> Word {
-    let start = find(line, at, n, WORD);
-    if n <= start {
-        return Word::new(start, start, Word::OTHER, 0);
-    }
-    match byte_at(line, start) {
-        b'"' => text_word(line, n, start),
-        b'=' | b':' => Word::new(start, past(start), Word::SIGN, 0),
-        _ => plain_word(line, start, find(line, start, n, WORD_END)),
-    }
-}
-
-// A text, from its first quote to its last, or to n where it has only one.
-fn text_word(line: &[u8; 1000], n: usize, start: usize) -> Word {
-    let first = past(start);
-    let last = find(line, first, n, QUOTE);
-    if n <= last {
-        return Word::new(start, n, Word::BAD_TEXT, 0);
-    }
-    let mut kind = Word::BAD_TEXT;
-    if (first < last) & (find_strange(line, first, last) == last) {
-        kind = Word::TEXT;
-    }
-    Word::new(start, past(last), kind, 0)
-}
-
-// A word of one or two hexadecimal digits is a byte.
-fn plain_word(line: &[u8; 1000], start: usize, end: usize) -> Word {
-    let mut w = Word::new(start, end, Word::OTHER, 0);
-    let v = number(line, w, 16);
-    if (end <= past(past(start))) & (v < 256) {
-        w.kind = Word::BYTE;
-        w.byte = (v % 256) as u8;
-    }
-    w
-}
-
-// Where the last word of a line ends, from a place on; that place where there is none.
-pub fn end_of_words(line: &[u8; 1000], n: usize, at: usize) -> usize {
-    let mut end = at;
-    let mut turns: usize = 0;
-    while turns < 1000 {
-        let w = next_word(line, n, end);
-        if w.end <= w.start {
-            return end;
-        }
-        end = w.end;
-        turns += 1;
-    }
-    end
-}
-
-// The bytes of a memory line, one after another: where the next stands, whether that is inside a text, and the byte that was had last.
+// A word of a line; an equals sign or a colon is one by itself.
 #[derive(Clone, Copy)]
-pub struct Bytes {
+pub(crate) struct Word<'a> {
     pub at: usize,
-    pub inside: bool,
-    pub more: bool,
-    pub byte: u8,
+    pub text: &'a [u8],
+    ghost in_line: { at + length text.now < 2 ^ 64 },
 }
 
-impl Bytes {
-    pub fn start(at: usize) -> Bytes {
+impl<'a> Word<'a> {
+    pub(crate) fn span(self) -> Span {
+        Span {
+            from: self.at,
+            to: self.at + self.text.len(),
+        }
+    }
+
+    pub(crate) fn is(self, text: &[u8]) -> bool {
+        self.text == text
+    }
+
+    // A number of 32 bits in digits.
+    pub(crate) fn number(self, base: Base) -> Option<u32> {
+        let base = base.radix();
+        self.text.iter().try_fold(0u32, |v, b| {
+            v.checked_mul(base)?
+                .checked_add(char::from(*b).to_digit(base)?)
+        })
+    }
+
+    // A byte in one or two hexadecimal digits.
+    pub(crate) fn byte(self) -> Option<u8> {
+        if self.text.len() > 2 {
+            return None;
+        }
+        u8::try_from(self.number(Base::Sixteen)?).ok()
+    }
+
+    // What stands between double quotes, if that is something, and all of it plain characters.
+    pub(crate) fn letters(self) -> Option<&'a [u8]>
+        ensures { IfSome result (λ s. length s.now + 2 ≡ length self.entry.text.now) }
+    {
+        match self.text {
+            [b'"', letters @ .., b'"'] if !letters.is_empty() && letters.iter().all(is_plain) => {
+                Some(letters)
+            }
+            _ => None,
+        }
+    }
+
+    // Where its letters stand.
+    pub(crate) fn letters_span(self) -> Option<Span> {
+        let letters = self.letters()?;
+        let from = self.at + 1;
+        Some(Span {
+            from,
+            to: from + letters.len(),
+        })
+    }
+
+    // Why it is not understood: a byte in it that may not be seen for what it is, or else what was expected in its place.
+    pub(crate) fn bad(self, expected: Fault) -> Bad {
+        if let Some(k) = self.text.iter().position(|b| !is_plain(b)) {
+            return fault::strange(self.at + k, &self.text[k..]);
+        }
+        if self.text.starts_with(b"\"") && self.letters().is_none() {
+            return Bad::at(self.at, Fault::BadText);
+        }
+        Bad::at(self.at, expected)
+    }
+}
+
+// The bytes before the first that is such, and those from there on.
+fn split<F: FnMut(&u8) -> bool>(bytes: &[u8], is_such: F) -> (&[u8], &[u8])
+    requires { F.IsAlwaysCallable is_such }
+    ensures { length result.0.now + length result.1.now ≡ length bytes.now }
+{
+    let at = bytes.iter().position(is_such).unwrap_or(bytes.len());
+    bytes.split_at(at)
+}
+
+fn is_blank(byte: u8) -> bool {
+    matches!(byte, b' ' | b'\t')
+}
+
+// The word that bytes begin with, and those after it. A comment is no word, and ends one.
+fn split_word(bytes: &[u8]) -> (&[u8], &[u8])
+    ensures { length result.0.now + length result.1.now ≡ length bytes.now }
+{
+    match bytes {
+        [b'=' | b':', ..] => bytes.split_at(1),
+        // a text, from its first quote to its second, or to the end where it has only one
+        [b'"', letters @ ..] => match letters.iter().position(|b| *b == b'"') {
+            Some(k) => bytes.split_at(k + 2),
+            None => (bytes, &[]),
+        },
+        _ => split(bytes, |b| is_blank(*b) || matches!(b, b'#' | b'=' | b':')),
+    }
+}
+
+// A line, and what is not read of it yet.
+#[derive(Clone, Copy)]
+pub(crate) struct Words<'a> {
+    line: &'a [u8],
+    rest: &'a [u8],
+    ghost in_line: { length rest.now ≤ length line.now },
+}
+
+impl<'a> Words<'a> {
+    pub(crate) fn of(line: &'a [u8]) -> Words<'a> {
+        Words { line, rest: line }
+    }
+
+    // How far it is read.
+    pub(crate) fn at(&self) -> usize
+        ensures { result + length self.now.rest.now ≡ length self.now.line.now }
+    {
+        self.line.len() - self.rest.len()
+    }
+
+    // What is left of it, from the next word on, or where that would be.
+    pub(crate) fn left(&self) -> Span {
+        let (blanks, _) = split(self.rest, |b| !is_blank(*b));
+        Span {
+            from: self.at() + blanks.len(),
+            to: self.line.len(),
+        }
+    }
+
+    // Passes what is left of it.
+    pub(crate) fn take_rest(&mut self) {
+        self.rest = &[];
+    }
+
+    // What the next word is read as. It is passed, unless it is read as nothing.
+    pub(crate) fn take<T: Drop, F: FnOnce(Word<'a>) -> Option<T>>(&mut self, read: F) -> Option<T>
+        requires { F.IsAlwaysCallable read }
+    {
+        let mut after = *self;
+        let value = read(after.next()?)?;
+        *self = after;
+        Some(value)
+    }
+
+    // The same, or why it is bad.
+    pub(crate) fn expect<T: Drop, F: FnOnce(Word<'a>) -> Option<T>>(
+        &mut self,
+        expected: Fault,
+        read: F,
+    ) -> Result<T, Bad>
+        requires { F.IsAlwaysCallable read }
+    {
+        let bad = self.bad(expected);
+        self.take(read).ok_or(bad)
+    }
+
+    // Passes the next word if it is this one.
+    pub(crate) fn take_word(&mut self, text: &[u8]) -> bool {
+        self.take(|w| w.is(text).then_some(())).is_some()
+    }
+
+    pub(crate) fn byte(&mut self, expected: Fault) -> Result<u8, Bad> {
+        self.expect(expected, |w| w.byte())
+    }
+
+    // A number in a base, at least `least` and at most `most`.
+    pub(crate) fn number(
+        &mut self,
+        base: Base,
+        least: u32,
+        most: u32,
+        expected: Fault,
+    ) -> Result<u32, Bad> {
+        self.expect(expected, |w| {
+            w.number(base).filter(|v| (least..=most).contains(v))
+        })
+    }
+
+    // The same of a number that is a byte.
+    pub(crate) fn small(
+        &mut self,
+        base: Base,
+        least: u8,
+        most: u8,
+        expected: Fault,
+    ) -> Result<u8, Bad> {
+        self.expect(expected, |w| {
+            u8::try_from(w.number(base)?)
+                .ok()
+                .filter(|v| (least..=most).contains(v))
+        })
+    }
+
+    // What is bad where the next word is not understood, or there is none.
+    pub(crate) fn bad(mut self, expected: Fault) -> Bad {
+        match self.next() {
+            Some(word) => word.bad(expected),
+            None => Bad::at(self.at(), expected),
+        }
+    }
+
+    // Nothing else may stand on the line.
+    pub(crate) fn close(mut self, expected: Fault) -> Result<(), Bad> {
+        match self.next() {
+            Some(word) => Err(word.bad(expected)),
+            None => Ok(()),
+        }
+    }
+}
+
+impl<'a> Iterator for Words<'a> {
+    type Item = Word<'a>;
+
+    // each word has a byte, and is passed
+    ghost next_gives = { λ s r t. IfSome r (λ w. (0 < length w.text.now) × (length w.text.now + length t.rest.now ≤ length s.rest.now)) };
+
+    ghost remaining = { λ s. at_most (length s.rest.now) };
+
+    // The next word. Where there is none, the line has ended, or only a comment is left.
+    fn next(&mut self) -> Option<Word<'a>> {
+        (_, self.rest) = split(self.rest, |b| !is_blank(*b));
+        let at = self.at();
+        let (text, rest) = split_word(self.rest);
+        if text.is_empty() {
+            return None;
+        }
+        self.rest = rest;
+        Some(Word { at, text })
+    }
+}
+
+// The bytes of a memory line, one after another: those in digits, and the characters of texts.
+#[derive(Clone, Copy)]
+pub struct Bytes<'a> {
+    words: Words<'a>,
+    // what is left of a text
+    letters: &'a [u8],
+}
+
+impl<'a> Bytes<'a> {
+    pub(crate) fn of(words: Words<'a>) -> Bytes<'a> {
         Bytes {
-            at: at,
-            inside: false,
-            more: true,
-            byte: 0,
+            words,
+            letters: &[],
         }
     }
 
-    // The next byte; where there is none, there are no more.
-    pub fn next(self, line: &[u8; 1000], n: usize) -> Bytes {
-        if self.inside {
-            return next_letter(line, self.at);
-        }
-        let w = next_word(line, n, self.at);
-        let kind = w.kind;
-        match kind {
-            Word::BYTE => Bytes {
-                at: w.end,
-                inside: false,
-                more: true,
-                byte: w.byte,
-            },
-            Word::TEXT => next_letter(line, past(w.start)),
-            _ => Bytes {
-                at: w.start,
-                inside: false,
-                more: false,
-                byte: 0,
-            },
-        }
+    // What is not read yet.
+    pub(crate) fn words(self) -> Words<'a> {
+        self.words
     }
 }
 
-fn past(i: usize) -> usize {
-    if i < 1000 {
-        return i + 1;
-    }
-    i
-}
+impl<'a> Iterator for Bytes<'a> {
+    type Item = u8;
 
-// A character of a text; the quote after its last one is passed.
-fn next_letter(line: &[u8; 1000], at: usize) -> Bytes {
-    let b = byte_at(line, at);
-    let next = past(at);
-    if byte_at(line, next) == b'"' {
-        return Bytes {
-            at: past(next),
-            inside: false,
-            more: true,
-            byte: b,
-        };
-    }
-    Bytes {
-        at: next,
-        inside: true,
-        more: next < 1000,
-        byte: b,
+    ghost remaining = { λ s. at_most (length s.letters.now + length s.words.rest.now) };
+
+    fn next(&mut self) -> Option<u8> {
+        if self.letters.is_empty() {
+            let mut after = self.words;
+            let word = after.next()?;
+            if let Some(byte) = word.byte() {
+                self.words = after;
+                return Some(byte);
+            }
+            self.letters = word.letters()?;
+            self.words = after;
+        }
+        let (first, rest) = self.letters.split_first()?;
+        self.letters = rest;
+        Some(*first)
     }
 }

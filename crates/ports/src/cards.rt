@@ -1,15 +1,15 @@
-// The text of the cards, as the page has it: a literal for each, since the compiler takes much longer over a long one than over its pieces.
-use crate::print_lines;
+// The text of the cards, in the order of the page.
+use crate::Card;
 
-// How to read the cards, the master, and IW1.
-pub fn start(word: &[u8], state: u8) -> u8 {
-    let first = print_lines(
-        b"```
+// A proof about a function that names the table has all of the text in it, so only this one does.
+pub fn all() -> &'static [Card] {
+    &CARDS
+}
 
-## cards help: how to read the cards; card NAME prints one: card 2A, card IW1
-
-```
-NAME  a port, or any other word before the colon of a title, in either case
+static CARDS: [Card; 22] = [
+    Card {
+        title: "cards help: how to read the cards; card NAME prints one: card 2A, card IW1",
+        lines: "NAME  a port, or any other word before the colon of a title, in either case
 D7-D0  the bits of the byte, D7 the highest
 Dn  the bit of level n, or of channel n
 00 to FF  ports, bytes and addresses are hexadecimal, pulses decimal
@@ -17,17 +17,11 @@ Dn  the bit of level n, or of channel n
 (4)  is refused, with the status 4: card refused
 (1)  meets every port that is there while a DMA channel has the bus
 write 2A 44  a record, as lessons have it
-```
 ",
-        word,
-        state,
-    );
-    let second = print_lines(
-        b"
-## 00 0 master INT lines: interrupt chip: takes IW1, MCW, PFCW; shows IRR, ISR
-
-```
-D4  1: IW1, at any time. The chip starts anew. Card IW1
+    },
+    Card {
+        title: "00 0 master INT lines: interrupt chip: takes IW1, MCW, PFCW; shows IRR, ISR",
+        lines: "D4  1: IW1, at any time. The chip starts anew. Card IW1
 D4-D3  01: MCW, chooses what a read shows. Card MCW
 D4-D3  00: PFCW, finishes a level or turns the ranks. Card PFCW
 read  IRR, the levels that ask; after MCW 0B it is ISR, those in service
@@ -45,17 +39,11 @@ INT  high while the chip is ready and a level that asks and is not
 INT  is the last column of a lesson's rows
 write 00 0B  MCW: reads of 00 show ISR from now on
 write 00 20  PFCW: finish the highest-ranked level in service
-```
 ",
-        word,
-        first,
-    );
-    print_lines(
-        b"
-## IW1 LEV AG4 SNGL I4 edge level: first word of an interrupt chip, port 00
-
-```
-D7-D5  A7-A5 of the CALL address; in vector mode of no use, write 000
+    },
+    Card {
+        title: "IW1 LEV AG4 SNGL I4 edge level: first word of an interrupt chip, port 00",
+        lines: "D7-D5  A7-A5 of the CALL address; in vector mode of no use, write 000
 D4  1: this is IW1
 D3  LEV: 0 edge trigger, 1 level trigger
 D2  AG4: CALL addresses stand 4 bytes apart (1) or 8 bytes (0)
@@ -73,21 +61,11 @@ level  a line asks as long as it is high
 write 00 13  edge, single, IW4 follows
 write 00 11  edge, extended, IW3 and IW4 follow
 write 00 1B  level, single, IW4 follows
-```
 ",
-        word,
-        second,
-    )
-}
-
-// IW2 to IW4, and IMR.
-pub fn second_words(word: &[u8], state: u8) -> u8 {
-    let first = print_lines(
-        b"
-## 01 1 IW2 IW3 IMR: interrupt chip: takes IW2, IW3, IW4, then IMR; shows IMR
-
-```
-after IW1  the first byte is IW2
+    },
+    Card {
+        title: "01 1 IW2 IW3 IMR: interrupt chip: takes IW2, IW3, IW4, then IMR; shows IMR",
+        lines: "after IW1  the first byte is IW2
 after IW2  IW3 if D1 of IW1 is 0
 after that  IW4 if D0 of IW1 is 1. Card IW4
 after that  the chip is ready, and every byte is IMR
@@ -104,17 +82,11 @@ write 01 40  after IW1: IW2, vectors 40 (level 0) to 47 (level 7)
 write 01 80  after IW2, if extended: IW3
 write 01 01  then, if announced: IW4, vector mode
 write 01 F7  when ready: IMR, all levels masked but level 3
-```
 ",
-        word,
-        state,
-    );
-    print_lines(
-        b"
-## IW4 SFI vector CALL acknowledge: last word of an interrupt chip, port 01
-
-```
-D7-D2  ignored here; on the chip EXTN, BUF and BSV. Write 0.
+    },
+    Card {
+        title: "IW4 SFI vector CALL acknowledge: last word of an interrupt chip, port 01",
+        lines: "D7-D2  ignored here; on the chip EXTN, BUF and BSV. Write 0.
 D1  SFI: 0 normal FI, 1 self-FI
 D0  1 vector mode, 0 CALL mode. With no IW4 it is CALL mode.
 Then the chip is ready. The slave's goes to 31.
@@ -135,21 +107,11 @@ INT low  the master answers as its level 7, and nothing changes: no ISR bit
   chips have to be both in vector mode or both in CALL mode.
 write 01 01  vector mode, normal FI
 write 01 03  vector mode, self-FI
-```
 ",
-        word,
-        first,
-    )
-}
-
-// MCW and PFCW.
-pub fn commands(word: &[u8], state: u8) -> u8 {
-    let first = print_lines(
-        b"
-## MCW IRR ISR: chooses what a read of 00 shows; the slave's goes to 30
-
-```
-D7  ignored
+    },
+    Card {
+        title: "MCW IRR ISR: chooses what a read of 00 shows; the slave's goes to 30",
+        lines: "D7  ignored
 D6-D5  SNM, EXCN: 11, exceptional nesting, is refused (4); else no effect
 D4-D3  01: this is MCW
 D2  POL: 1, polling, is refused (4)
@@ -165,17 +127,11 @@ ISR  Dn is 1 while level n is in service: set by its acknowledge, cleared
 write 00 0A  reads of 00 show IRR
 write 00 0B  reads of 00 show ISR
 read 00  24 after MCW 0B: levels 2 and 5 are in service
-```
 ",
-        word,
-        state,
-    );
-    print_lines(
-        b"
-## PFCW FI RP SIL ranks: finishes a level or turns the ranks, port 00
-
-```
-D7  RP: rotate
+    },
+    Card {
+        title: "PFCW FI RP SIL ranks: finishes a level or turns the ranks, port 00",
+        lines: "D7  RP: rotate
 D6  SIL: the level is named in D2-D0
 D5  FI: finish
 D4-D3  00: this is PFCW
@@ -196,21 +152,11 @@ write 00 20  finish. A level of the slave: write 30 20, then write 00 20
 write 00 63  finish level 3
 write 00 A0  finish, and make that level the lowest
 write 00 C2  level 2 becomes the lowest, and 3 the highest
-```
 ",
-        word,
-        first,
-    )
-}
-
-// The counters, and their control words.
-pub fn counts(word: &[u8], state: u8) -> u8 {
-    let first = print_lines(
-        b"
-## 10 11 12 counter: the counts of the counters 0, 1 and 2
-
-```
-The control word at 13 comes first. It has the bytes (RWM) and the mode.
+    },
+    Card {
+        title: "10 11 12 counter: the counts of the counters 0, 1 and 2",
+        lines: "The control word at 13 comes first. It has the bytes (RWM) and the mode.
 RWM 01  a byte is the low byte of a count; its high byte is 00
 RWM 10  a byte is the high byte; its low byte is 00
 RWM 11  two bytes, low one first. Until the second the old count stands.
@@ -229,17 +175,11 @@ RWM 11  a read of one byte leaves the high byte for the next read. Reads
 (6)  a count of 1 in modes 2 and 3. With RWM 11 the low byte is kept,
   and the next byte is a high one again.
 write 10 05  after write 13 10: count 5. OUT0 rises at the sixth pulse.
-```
 ",
-        word,
-        state,
-    );
-    print_lines(
-        b"
-## 13 control SC RWM CM BCD latch: control word of the timer, not to be read
-
-```
-D7-D6  SC: counter 0, 1 or 2; 11, the multiple latch, is refused (4)
+    },
+    Card {
+        title: "13 control SC RWM CM BCD latch: control word of the timer, not to be read",
+        lines: "D7-D6  SC: counter 0, 1 or 2; 11, the multiple latch, is refused (4)
 D5-D4  RWM: 00 latch, 01 low byte, 10 high byte, 11 both, low byte first
 D3-D1  CM: the mode, 000 to 101; 110 is mode 2, 111 is mode 3. Card modes
 D0  BCD: 0 binary; 1 is refused (4)
@@ -260,21 +200,11 @@ write 13 34  counter 0: both bytes, mode 2
 write 13 76  counter 1: both bytes, mode 3
 write 13 98  counter 2: low byte, mode 4
 write 13 00  latch counter 0; 40 counter 1, 80 counter 2
-```
 ",
-        word,
-        first,
-    )
-}
-
-// The modes of a counter, and where the DMA chip begins: its bus, and the channel.
-pub fn modes(word: &[u8], state: u8) -> u8 {
-    let first = print_lines(
-        b"
-## modes GATE OUT: the six modes of a counter, with a count of N
-
-```
-mode 0  OUT low; N + 1 pulses after the count is written it goes high
+    },
+    Card {
+        title: "modes GATE OUT: the six modes of a counter, with a count of N",
+        lines: "mode 0  OUT low; N + 1 pulses after the count is written it goes high
 mode 1  OUT high; at the pulse after GATE rises it goes low for N pulses
 mode 2  OUT high; low for one pulse in N, the last one of each period
 mode 3  OUT high for half of N pulses, low for the other half. An odd N has
@@ -295,17 +225,11 @@ least  N is 1; in modes 2 and 3 it is 2, and 1 is refused (6)
 gates 06  takes GATE0 low; gates 07 after it is a rise of GATE0. After reset
   all three are high, so gates 07 alone is no rise.
 advance 5  gives five pulses to all three counters
-```
 ",
-        word,
-        state,
-    );
-    let second = print_lines(
-        b"
-## 20 initialize RES 16B: the DMA chip's reset and its bus, not to be read
-
-```
-D7-D2  ignored. Write 0.
+    },
+    Card {
+        title: "20 initialize RES 16B: the DMA chip's reset and its bus, not to be read",
+        lines: "D7-D2  ignored. Write 0.
 D1  16B: 0 the bus has 8 bits; 1 it has 16, and words can be moved
 D0  RES: 1 resets the chip; 0 changes the bus alone
 reset  masks all four channels. Modes, device control and end bits are 0, and
@@ -317,17 +241,11 @@ After the record reset the bus has 8 bits.
 write 20 01  reset, 8-bit bus
 write 20 02  16-bit bus, no reset
 write 20 03  reset, 16-bit bus
-```
 ",
-        word,
-        first,
-    );
-    print_lines(
-        b"
-## 21 channel SELCH BASE: the DMA channel that 22 to 26 and 2A are about
-
-```
-write D7-D3  ignored. Write 0.
+    },
+    Card {
+        title: "21 channel SELCH BASE: the DMA channel that 22 to 26 and 2A are about",
+        lines: "write D7-D3  ignored. Write 0.
 write D2  BASE: what 22 to 26 write and read
 write D1-D0  SELCH: channel 0 to 3
 BASE 0  a write goes to base and current, a read shows current
@@ -339,21 +257,11 @@ read D4  BASE
 read D3-D0  a single bit is 1: Dn for channel n
 write 21 01  channel 1; read 21 shows 02
 write 21 07  channel 3, base; read 21 shows 18
-```
 ",
-        word,
-        second,
-    )
-}
-
-// The count and the address of a channel, and device control.
-pub fn spans(word: &[u8], state: u8) -> u8 {
-    let first = print_lines(
-        b"
-## 22 23 count: count of the selected DMA channel, low byte (22) and high (23)
-
-```
-N  as a count moves N plus one units: bytes, or words with D0 of 2A
+    },
+    Card {
+        title: "22 23 count: count of the selected DMA channel, low byte (22) and high (23)",
+        lines: "N  as a count moves N plus one units: bytes, or words with D0 of 2A
 words  for B bytes N is half of B, less one
 21  says whose count it is, and whether base alone is meant
 write  replaces this byte and leaves the other one. Write both.
@@ -365,17 +273,11 @@ END  ends a transfer sooner, with the unit that it comes with; in a cycle
 The count of a counter is card 10.
 write 22 02  and write 23 00: count 0002, three units
 write 22 FF  and write 23 01: count 01FF, 512 units
-```
 ",
-        word,
-        state,
-    );
-    let second = print_lines(
-        b"
-## 24 25 26 address: address of the selected DMA channel, 24 low to 26 high
-
-```
-21  says whose address it is, and whether base alone is meant
+    },
+    Card {
+        title: "24 25 26 address: address of the selected DMA channel, 24 low to 26 high",
+        lines: "21  says whose address it is, and whether base alone is meant
 write  replaces this byte and leaves the other two. Write all three.
 read  current, that of the next unit. With AUTI the end brings back base.
 step  1 for each unit, 2 with words; up or down as D5 of 2A says. Upwards
@@ -387,31 +289,19 @@ end  a lesson has memory from 000000 to 00FFFF, or as lend says. Past it a
 write 24 34  low byte of 001234
 write 25 12  its middle byte
 write 26 00  its high byte
-```
 ",
-        word,
-        first,
-    );
-    let third = print_lines(
-        b"
-## 27 2C 2D 2E: DMA chip: ports that this board does not have
-
-```
-27  there is no such register: read and write are refused (2)
+    },
+    Card {
+        title: "27 2C 2D 2E: DMA chip: ports that this board does not have",
+        lines: "27  there is no such register: read and write are refused (2)
 2C 2D  the temporary register: read and write are refused (4)
 2E  requests by software: read and write are refused (4). The record
   requests has the four request lines in D3-D0: requests 01
-```
 ",
-        word,
-        second,
-    );
-    print_lines(
-        b"
-## 28 29 device ROT DDMA: device control of the DMA chip
-
-```
-28 D4  ROT: 0 fixed ranks, channel 0 first; 1 rotating ranks
+    },
+    Card {
+        title: "28 29 device ROT DDMA: device control of the DMA chip",
+        lines: "28 D4  ROT: 0 fixed ranks, channel 0 first; 1 rotating ranks
 28 D2  DDMA: 1 disables the chip: no channel gets the bus
 28  any other bit is refused (4): D7 AKL, D6 RQL, D5 EXW, D3 CMP,
   D1 AHLD, D0 MTM
@@ -424,21 +314,11 @@ write 28 14  the same with rotating ranks: 04 ends the rotation, and 10 after
   it starts again with channel 0
 write 28 00  enable, fixed ranks
 write 28 10  enable, rotating ranks
-```
 ",
-        word,
-        third,
-    )
-}
-
-// The mode of a channel, the status, and the masks.
-pub fn transfers(word: &[u8], state: u8) -> u8 {
-    let first = print_lines(
-        b"
-## 2A mode TMODE ADIR AUTI TDIR W/B: mode of the DMA channel selected by 21
-
-```
-D7-D6  TMODE: 00 demand, 01 single, 10 block; 11, cascade, is refused (4)
+    },
+    Card {
+        title: "2A mode TMODE ADIR AUTI TDIR W/B: mode of the DMA channel selected by 21",
+        lines: "D7-D6  TMODE: 00 demand, 01 single, 10 block; 11, cascade, is refused (4)
 D5  ADIR: 0 upwards, 1 downwards
 D4  AUTI: 1 autoinitialize: at the end address and count start again
   from base, and the channel is not masked. 0: it is masked.
@@ -460,17 +340,11 @@ write 2A 44  single, to memory, bytes, upwards
 write 2A 88  block, to the device, bytes, upwards
 write 2A 54  single, to memory, bytes, upwards, autoinitialize
 write 2A 85  block, to memory, words, upwards; write 20 02 before it
-```
 ",
-        word,
-        state,
-    );
-    let second = print_lines(
-        b"
-## 2B status RQ TC: status of the DMA chip, not to be written
-
-```
-D7-D4  RQ3 to RQ0: the request lines as they are now, masked or not
+    },
+    Card {
+        title: "2B status RQ TC: status of the DMA chip, not to be written",
+        lines: "D7-D4  RQ3 to RQ0: the request lines as they are now, masked or not
 D3-D0  TC3 to TC0: the channel came to its end, by its count or by END
 A read clears D3-D0 and nothing else. No write but a reset at 20 clears them:
 an end bit that was not read stays on through the next transfer.
@@ -479,17 +353,11 @@ an end bit that was not read stays on through the next transfer.
 An end bit does not say that each byte is in memory: card 24.
 read 2B  11: channel 0 came to its end, and its request is still high
 read 2B  10: the same once more; the first read cleared the end bit
-```
 ",
-        word,
-        first,
-    );
-    print_lines(
-        b"
-## 2F masks: which DMA channels may get the bus
-
-```
-D7-D4  ignored; they read 0
+    },
+    Card {
+        title: "2F masks: which DMA channels may get the bus",
+        lines: "D7-D4  ignored; they read 0
 D3-D0  channel 3 to channel 0: 1 masked, 0 open
 write  sets all four at once. Write it last, after mode, count and address.
 read  the four masks
@@ -498,21 +366,11 @@ unless its mode has AUTI. The request of a masked channel shows in 2B.
 write 2F 0E  channel 0 alone is open
 write 2F 0D  channel 1 alone is open
 write 2F 0F  all are masked
-```
 ",
-        word,
-        second,
-    )
-}
-
-// The slave, and the refusals.
-pub fn slave(word: &[u8], state: u8) -> u8 {
-    let first = print_lines(
-        b"
-## 30 slave: the second interrupt chip: as 00, and what is different here
-
-```
-IW1, MCW, PFCW, IRR and ISR are as the master's: cards 00, IW1, MCW, PFCW.
+    },
+    Card {
+        title: "30 slave: the second interrupt chip: as 00, and what is different here",
+        lines: "IW1, MCW, PFCW, IRR and ISR are as the master's: cards 00, IW1, MCW, PFCW.
 lines  the record slave has lines 0 to 7 in D0 to D7, all at once; none is
   a counter's
 INT  goes to line 7 of the master, beside INTP7, and is in no column
@@ -529,17 +387,11 @@ edge  the master asks anew only when line 7 rises. It does not while INTP7 or
 write 00 11  then 01 40, 01 80, 01 01: the master, extended, vectors 40-47
 write 30 11  then 31 38, 31 07, 31 01: the slave, extended, vectors 38-3F
 slave 04  line 2 of the slave; the acknowledge after it gives 3A
-```
 ",
-        word,
-        state,
-    );
-    let second = print_lines(
-        b"
-## 31: the second interrupt chip: as 01, and what is different here
-
-```
-IW2, IW4 and IMR are as the master's: cards 01 and IW4.
+    },
+    Card {
+        title: "31: the second interrupt chip: as 01, and what is different here",
+        lines: "IW2, IW4 and IMR are as the master's: cards 01 and IW4.
 IW3 D7-D0  07, the line of the master that the slave is on. Any other is
   refused (4), and IW3 is awaited still.
 IW2  another one than the master's, so that the vectors differ
@@ -552,17 +404,11 @@ write 31 38  after IW1: IW2, vectors 38 to 3F
 write 31 07  after IW2, if extended: IW3. In single it would be IW4, self-FI.
 write 31 01  then IW4: vector mode, normal FI
 write 31 FB  when ready: IMR, all levels masked but level 2
-```
 ",
-        word,
-        first,
-    );
-    print_lines(
-        b"
-## refused statuses: the status numbers, which the cards have as (4)
-
-```
-0  done
+    },
+    Card {
+        title: "refused statuses: the status numbers, which the cards have as (4)",
+        lines: "0  done
 1  a read, write or acknowledge while a DMA channel has the bus; so it is
   for every port. It ends by cycle, and each cycle moves a unit: to memory,
   cycle with no byte moves 00. In demand a low request ends it with no unit.
@@ -577,9 +423,6 @@ write 31 FB  when ready: IMR, all levels masked but level 2
 7  no record has it: a whole call of the library was refused
 Where several fit, it is the first of 2, 1, 3, 4, 6.
 A refused record changes nothing, and the records after it go on.
-```
 ",
-        word,
-        second,
-    )
-}
+    },
+];

@@ -1,4 +1,5 @@
 -- The kept bytes have no part in a record: with others in their place, all else is the same.
+use Rattle.std.specs.Prelude.{Option, Some, None}
 use mathlib.Core.Path.{◌≡◌, refl, ap, ◌∙◌}
 use mathlib.Core.List.{List}
 use mathlib.Core.Bool.{Bool, true, false}
@@ -7,8 +8,6 @@ use lib.Dec.{eqb}
 use Rattle.std.specs.Prelude.{if◌then◌else◌}
 use Rattle.tape.specs.declared.Operation.{Operation}
 use Rattle.tape.specs.declared.Operation.TheVariants.{Reset, Write, Read, Intp, Gates, Requests, SlaveIntp, Acknowledge, Advance, Cycle}
-use Rattle.tape.specs.declared.Decoded.{Decoded}
-use Rattle.tape.specs.declared.Decoded.TheVariants.{Asked, Malformed}
 use Rattle.tape.specs.Records.{byte, decode_of}
 use Rattle.icu.specs.Words as IcuWords
 use Rattle.cascade.specs.Cascade.{slave_iw3, answered, passed_on}
@@ -105,10 +104,10 @@ module _ (kept : List ℕ) (n : ℕ) where
     execute_aside (Advance k) m = refl
     execute_aside (Cycle e x y) m = refl
 
-    outcome_aside : (d : Decoded) (m : List ℕ) → outcome_of (K b) d m ≡ O (outcome_of b d m)
+    outcome_aside : (d : Option Operation) (m : List ℕ) → outcome_of (K b) d m ≡ O (outcome_of b d m)
     unfolding outcome_of blocked
-    outcome_aside Malformed m = refl
-    outcome_aside (Asked o) m = choice (blocked b o) (refused 1 b) (execute_of b o m) refl (execute_aside o m)
+    outcome_aside None m = refl
+    outcome_aside (Some o) m = choice (blocked b o) (refused 1 b) (execute_of b o m) refl (execute_aside o m)
 
     carried_aside : (o : Operation) (m : List ℕ) → memory_after (K b) o m ≡ memory_after b o m
     unfolding memory_after cycle_memory
@@ -123,10 +122,10 @@ module _ (kept : List ℕ) (n : ℕ) where
     carried_aside (Advance k) m = refl
     carried_aside (Cycle e x y) m = refl
 
-    memory_by : (d : Decoded) (m : List ℕ) → memory_of (K b) d m ≡ memory_of b d m
+    memory_by : (d : Option Operation) (m : List ℕ) → memory_of (K b) d m ≡ memory_of b d m
     unfolding memory_of blocked
-    memory_by Malformed m = refl
-    memory_by (Asked o) m = ap (λ (k : List ℕ). if blocked b o then m else k) (carried_aside o m)
+    memory_by None m = refl
+    memory_by (Some o) m = ap (λ (k : List ℕ). if blocked b o then m else k) (carried_aside o m)
 
     pub step_aside : (r m : List ℕ) → step_of (K b) r m ≡ record { board = K (step_of b r m).board; answer = (step_of b r m).answer }
     unfolding step_of answered_of levels_of

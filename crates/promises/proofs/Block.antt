@@ -1,4 +1,6 @@
 -- A served channel, unit by unit; and one that keeps the bus to its end, in block mode or in demand with its request held.
+use Rattle.tape.specs.declared.Operation.{Operation}
+use Rattle.std.specs.Prelude.{Option, Some}
 use mathlib.Core.Path.{◌≡◌, refl, sym, ap, ◌∙◌, subst}
 use mathlib.Core.Logic.{◌≢◌}
 use mathlib.Core.List.{List, [], ◌∷◌, ◌++◌}
@@ -13,8 +15,6 @@ use Rattle.bits.specs.Choice.{◌and◌, ◌or◌}
 use Rattle.std.specs.Prelude.{if◌then◌else◌}
 use Rattle.bits.specs.Bits.{bit_of, less}
 use Rattle.tape.specs.declared.Operation.TheVariants.{Cycle}
-use Rattle.tape.specs.declared.Decoded.{Decoded}
-use Rattle.tape.specs.declared.Decoded.TheVariants.{Asked}
 use Rattle.tape.specs.Records.{byte, decode_of}
 use Rattle.tape.specs.Answers.{answer_of}
 use Rattle.dma.specs.declared.Channel.{Channel}
@@ -42,7 +42,7 @@ module _ (r : List ℕ) (six : byte r 0 ≡ 6) (low : byte r 1 ≡ 0) where
   other : (n : ℕ) {A : Type 0} → eqb (byte r 0) n ≡ true → n ≢ 6 → A
   other n o h = absurd (h (sym (eqb-true (byte r 0) n o) ∙ six))
 
-  is_cycle : (x : Decoded) → Decodes r x → asked x ≡ true → x ≡ Asked (Cycle false (byte r 2) (byte r 3))
+  is_cycle : (x : Option Operation) → Decodes r x → asked x ≡ true → x ≡ Some (Cycle false (byte r 2) (byte r 3))
   is_cycle x malformed a = absurd (false≢true a)
   is_cycle x (reset o) a = other 0 o (omega arith)
   is_cycle x (write o p) a = other 1 o (omega arith)
@@ -62,7 +62,7 @@ module _ (b : Board) (r m : List ℕ) (h : plain_cycle r ≡ true) where
   six : byte r 0 ≡ 6
   six = eqb-true (byte r 0) 6 (both_left (eqb (byte r 0) 6) (eqb (byte r 1) 0) more)
 
-  decoded : decode_of r ≡ Asked (Cycle false (byte r 2) (byte r 3))
+  decoded : decode_of r ≡ Some (Cycle false (byte r 2) (byte r 3))
   decoded =
       is_cycle r six (eqb-true (byte r 1) 0 (both_right (eqb (byte r 0) 6) (eqb (byte r 1) 0) more)) (decode_of r) (decodes r)
       (formed_asked r ∙ sym (same_formed r) ∙ both_left (formed r) (eqb (byte r 0) 6 and eqb (byte r 1) 0) h)

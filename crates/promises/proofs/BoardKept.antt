@@ -1,4 +1,6 @@
 -- Every record leaves the board in its ranges.
+use Rattle.tape.specs.declared.Operation.{Operation}
+use Rattle.std.specs.Prelude.{Option}
 use mathlib.Core.Path.{◌≡◌, refl}
 use mathlib.Core.List.{List}
 use mathlib.Core.Bool.{true}
@@ -12,7 +14,6 @@ use Rattle.cascade.specs.Cascade.{slave_iw3, answered, passed_on}
 use Rattle.timer.specs.declared.Timer.{Timer}
 use Rattle.timer.specs.Timer.{writes_of, reads_of}
 use Rattle.tape.specs.declared.Operation.TheVariants.{Reset, Write, Read, Intp, Gates, Requests, SlaveIntp, Acknowledge, Advance, Cycle}
-use Rattle.tape.specs.declared.Decoded.{Decoded}
 use Rattle.tape.specs.Records.{byte, decode_of, pulse_count}
 use Rattle.dma.specs.declared.Channel.{Channel}
 use Rattle.dma.specs.declared.Dma.{Dma}
@@ -109,7 +110,7 @@ module _ (b : Board) (h : Held b) where
       (λ _. either P (answered b.icu b.slave) (λ _. with_icu (the-icu.acknowledge_fine b.icu h.icu (lines b))) (λ _. h))
 
   module _ (r m : List ℕ) where
-    execute_held : (x : Decoded) → Decodes r x → P (outcome_of b x m)
+    execute_held : (x : Option Operation) → Decodes r x → P (outcome_of b x m)
     unfolding outcome_of execute_of advance_of cycle_of
     execute_held x malformed = h
     execute_held x (reset o) = either P (blocked b Reset) (λ _. h) (λ _. record { intp = refl; icu = the-icu.reset_fine; slave = the-icu.reset_fine; timer = the-timer.resets_fine })

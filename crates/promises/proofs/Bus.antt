@@ -13,7 +13,7 @@ use Rattle.bits.specs.Bits.{bit_of}
 use Rattle.tape.specs.Records.{unused, writable, readable, decode_of}
 use Rattle.tape.specs.Answers.{answer_of}
 use Rattle.dma.specs.declared.Dma.{Dma}
-use Rattle.dma.specs.declared.Written.{Written}
+use Rattle.dma.specs.Answers.{Written}
 use Rattle.dma.specs.Fields.{mode_is, selected, channels_are, wide_is, requests_are}
 use Rattle.dma.specs.Registers as Registers
 use Rattle.board.specs.declared.Board.{Board}

@@ -9,8 +9,8 @@ use lib.ListN.{get_or, set}
 use Rattle.bits.specs.Bits.{bit_of}
 use Rattle.timer.specs.declared.Counter.{Counter}
 use Rattle.timer.specs.declared.Timer.{Timer}
-use Rattle.timer.specs.declared.Written.{Written}
-use Rattle.timer.specs.declared.Got.{Got}
+use Rattle.timer.specs.Timer.{Written}
+use Rattle.timer.specs.Timer.{Got}
 use Rattle.timer.specs.Modes.{moded}
 use Rattle.timer.specs.Ports.{Answer, SC, RWM, BCD, mode_set, mode_word, latch_word, control_of, completed, count_of, begun, write_of, read_of}
 use Rattle.timer.specs.Pulse.{gate_of}

@@ -1,4 +1,6 @@
 -- What one record does to the edge request of one level.
+use Rattle.tape.specs.declared.Operation.{Operation}
+use Rattle.std.specs.Prelude.{Option}
 use mathlib.Core.Path.{◌≡◌, refl, sym, ap, subst, ◌∙◌}
 use mathlib.Core.Logic.{◌≢◌}
 use mathlib.Core.List.{List}
@@ -12,7 +14,6 @@ use Rattle.bits.specs.Choice.{◌and◌, ◌or◌}
 use Rattle.std.specs.Prelude.{if◌then◌else◌}
 use Rattle.bits.specs.Bits.{bit_of}
 use Rattle.tape.specs.declared.Operation.TheVariants.{Reset, Write, Read, Intp, Gates, Requests, SlaveIntp, Acknowledge, Advance, Cycle}
-use Rattle.tape.specs.declared.Decoded.{Decoded}
 use Rattle.tape.specs.Records.{byte, pulse_count, decode_of}
 use Rattle.tape.specs.Answers.{answer_of}
 use Rattle.icu.specs.declared.Icu.{Icu}
@@ -701,7 +702,7 @@ module _ (b : Board) (k : ℕ) (low : k < 8) (fit : Fit b) (is-backed : Backed b
     advances op (suc n) few = advance_goes op (suc n) (omega arith) few
 
     -- Any record.
-    does : (x : Decoded) → Decodes r x → Does (outcome_of b x m)
+    does : (x : Option Operation) → Decodes r x → Does (outcome_of b x m)
     unfolding outcome_of execute_of cycle_of
     does x malformed = refuses 2 refl
     does x (reset o) = either Does (blocked b Reset) (λ _. refuses 1 refl) (λ _. reset_goes o)

@@ -16,8 +16,8 @@ use Rattle.tape.specs.Answers.{answer_of}
 use Rattle.icu.specs.declared.Icu.{Icu}
 use Rattle.timer.specs.declared.Counter.{Counter}
 use Rattle.timer.specs.declared.Timer.{Timer}
-use Rattle.timer.specs.declared.Written.{Written}
-use Rattle.timer.specs.declared.Got.{Got}
+use Rattle.timer.specs.Timer.{Written}
+use Rattle.timer.specs.Timer.{Got}
 use Rattle.timer.specs.Fields.{second_is, latched_is}
 use Rattle.timer.specs.Modes.{moded}
 use Rattle.timer.specs.Ports.{Answer, read_as, SC, RWM, latch_word, control_of, count_of, held}

@@ -12,8 +12,8 @@ use Rattle.tape.specs.declared.Operation.{Operation}
 use Rattle.tape.specs.declared.Operation.TheVariants.{Reset, Write, Read, Intp, Gates, Requests, SlaveIntp, Acknowledge, Advance, Cycle}
 use Rattle.dma.specs.declared.Channel.{Channel}
 use Rattle.dma.specs.declared.Dma.{Dma}
-use Rattle.dma.specs.declared.Written.{Written}
-use Rattle.dma.specs.declared.Got.{Got}
+use Rattle.dma.specs.Answers.{Written}
+use Rattle.dma.specs.Answers.{Got}
 use Rattle.dma.specs.Fields.{none, chan, served, word, wide_is}
 use Rattle.dma.specs.Registers.{chosen, reset_of, requested_of, any_words, unbuilt_mode, refuses_mode, initialized_of, selected_of, loaded_of, controlled_of, moded_of, masked_by, write_of, read_of}
 use Rattle.dma.specs.Cycle.{moved_of, winner, last_of, releases, nothing_of, granted_of, released_of, unit_of, cycle_by, cycle_of}

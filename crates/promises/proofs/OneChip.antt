@@ -1,4 +1,5 @@
 -- A tape that never names the slave, and writes no IW1 with D1=0, is answered as by the board with one chip.
+use Rattle.std.specs.Prelude.{Option, Some, None}
 use mathlib.Core.Path.{◌≡◌, refl, sym, ap, ap₂, ◌∙◌}
 use mathlib.Core.List.{List}
 use mathlib.Core.Bool.{Bool, true, false, not, true≢false, false≢true}
@@ -11,8 +12,6 @@ use Rattle.std.specs.Prelude.{if◌then◌else◌}
 use Rattle.bits.specs.Bits.{bit_of}
 use Rattle.tape.specs.declared.Operation.{Operation}
 use Rattle.tape.specs.declared.Operation.TheVariants.{Reset, Write, Read, Intp, Gates, Requests, SlaveIntp, Acknowledge, Advance, Cycle}
-use Rattle.tape.specs.declared.Decoded.{Decoded}
-use Rattle.tape.specs.declared.Decoded.TheVariants.{Asked, Malformed}
 use Rattle.tape.specs.Records.{byte, unused, writable, readable, asked_if, lines_asked, pulse_count, uses_bus, decode_of}
 use Rattle.icu.specs.declared.Icu.{Icu}
 use Rattle.icu.specs.Answers as IcuAnswers
@@ -315,14 +314,14 @@ module _ (b : Board) (l : Lone b) where
 
   module _ (m : List ℕ) where
     -- What is asked for comes to the same; a record that needs the bus while a channel is served is refused by both.
-    abbrev Good : Decoded → Type 0
+    abbrev Good : Option Operation → Type 0
     Good d = Same (outcome_of b d m) (outcome_one (alone b) d m)
 
-    held : (o : Operation) → Same (execute_of b o m) (execute_one (alone b) o m) → Good (Asked o)
+    held : (o : Operation) → Same (execute_of b o m) (execute_one (alone b) o m) → Good (Some o)
     unfolding outcome_of outcome_one blocked
     held o s = pairwise Same (b.dma.serving and uses_bus o) (λ _. refuses 1) (λ _. s)
 
-    unknown : Good Malformed
+    unknown : Good None
     unfolding outcome_of outcome_one
     unknown = refuses 2
 
@@ -335,19 +334,19 @@ module _ (b : Board) (l : Lone b) where
     either_way true = refl
     either_way false = refl
 
-    memory_same : (x : Decoded) → memory_of b x m ≡ memory_one (alone b) x m
+    memory_same : (x : Option Operation) → memory_of b x m ≡ memory_one (alone b) x m
     unfolding memory_of memory_one memory_after blocked cycle_memory
-    memory_same Malformed = refl
-    memory_same (Asked Reset) = either_way (blocked b Reset)
-    memory_same (Asked (Write p x)) = either_way (blocked b (Write p x))
-    memory_same (Asked (Read p)) = either_way (blocked b (Read p))
-    memory_same (Asked (Intp x)) = either_way (blocked b (Intp x))
-    memory_same (Asked (Gates x)) = either_way (blocked b (Gates x))
-    memory_same (Asked (Requests x)) = either_way (blocked b (Requests x))
-    memory_same (Asked (SlaveIntp x)) = either_way (blocked b (SlaveIntp x))
-    memory_same (Asked Acknowledge) = either_way (blocked b Acknowledge)
-    memory_same (Asked (Advance n)) = either_way (blocked b (Advance n))
-    memory_same (Asked (Cycle e x y)) = rw (and_false b.dma.serving) refl
+    memory_same None = refl
+    memory_same (Some Reset) = either_way (blocked b Reset)
+    memory_same (Some (Write p x)) = either_way (blocked b (Write p x))
+    memory_same (Some (Read p)) = either_way (blocked b (Read p))
+    memory_same (Some (Intp x)) = either_way (blocked b (Intp x))
+    memory_same (Some (Gates x)) = either_way (blocked b (Gates x))
+    memory_same (Some (Requests x)) = either_way (blocked b (Requests x))
+    memory_same (Some (SlaveIntp x)) = either_way (blocked b (SlaveIntp x))
+    memory_same (Some Acknowledge) = either_way (blocked b Acknowledge)
+    memory_same (Some (Advance n)) = either_way (blocked b (Advance n))
+    memory_same (Some (Cycle e x y)) = rw (and_false b.dma.serving) refl
 
     -- One record.
     module _ (r : List ℕ) (names : names_slave r ≡ false) (starts : starts_extended r ≡ false) where

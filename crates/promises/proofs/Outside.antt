@@ -1,4 +1,6 @@
 -- The answer of a unit tells what it should, and its channel stands where it should after it.
+use Rattle.tape.specs.declared.Operation.{Operation}
+use Rattle.std.specs.Prelude.{Option}
 use mathlib.Core.Path.{◌≡◌, refl, sym, ap, ap₂, subst, ◌∙◌}
 use mathlib.Core.List.{List}
 use mathlib.Core.Logic.{◌≢◌}
@@ -13,7 +15,6 @@ use Rattle.bits.specs.Choice.{◌and◌, ◌or◌}
 use Rattle.std.specs.Prelude.{if◌then◌else◌}
 use Rattle.bits.specs.Bits.{bit_of, less}
 use Rattle.tape.specs.declared.Operation.TheVariants.{Cycle}
-use Rattle.tape.specs.declared.Decoded.{Decoded}
 use Rattle.tape.specs.Records.{byte, decode_of}
 use Rattle.tape.specs.Answers.{answer_of}
 use Rattle.tape.proofs.Decodes.{Decodes, malformed, reset, write, read, intp, gates, requests, slave_intp, acknowledge, advance, cycle, decodes}
@@ -375,7 +376,7 @@ module _ (b : Board) (r m : List ℕ) where
       none true e = rw e
       none false e = refl
 
-  by : (x : Decoded) → Sound b.dma → Decodes r x → Tells b.dma (outcome_of b x m).board.dma r m (Step.memory_of b x m) (told (outcome_of b x m))
+  by : (x : Option Operation) → Sound b.dma → Decodes r x → Tells b.dma (outcome_of b x m).board.dma r m (Step.memory_of b x m) (told (outcome_of b x m))
   unfolding outcome_of Step.memory_of execute_of memory_after cycle_of cycle_memory answer_of
   by x s malformed = quiet refl (λ _. (refl, refl, refl, refl)) (λ _. (refl, refl))
   by x s (reset o) = other 0 o (omega arith) (outcome_of b x m) (Step.memory_of b x m)

@@ -1,4 +1,6 @@
 -- Records of a write, a read and one pulse, as they are carried out.
+use Rattle.tape.specs.declared.Operation.{Operation}
+use Rattle.std.specs.Prelude.{Option, Some, None}
 use mathlib.Core.Path.{◌≡◌, refl, sym, ap, ◌∙◌}
 use mathlib.Core.Logic.{◌≢◌}
 use mathlib.Core.List.{List}
@@ -13,8 +15,6 @@ use Rattle.std.specs.Prelude.{if◌then◌else◌}
 use Rattle.bits.specs.Bits.{bit_of, without_of}
 use Rattle.bits.proofs.Every.{alike}
 use Rattle.tape.specs.declared.Operation.TheVariants.{Write, Read}
-use Rattle.tape.specs.declared.Decoded.{Decoded}
-use Rattle.tape.specs.declared.Decoded.TheVariants.{Asked, Malformed}
 use Rattle.tape.specs.Records.{byte, unused, writable, readable, lines_asked, pulse_count, decode_of}
 use Rattle.tape.specs.Answers.{answer_of}
 use Rattle.icu.specs.declared.Icu.{Icu}
@@ -63,7 +63,7 @@ module _ (b : Board) (m : List ℕ) where
     abbrev Same : Outcome → Type 0
     Same o = f o.board.timer ≡ f b.timer
 
-    asks : (w : Bool) (x : Decoded) → Same (outcome_of b x m) → Same (outcome_of b (if w then x else Malformed) m)
+    asks : (w : Bool) (x : Option Operation) → Same (outcome_of b x m) → Same (outcome_of b (if w then x else None) m)
     unfolding outcome_of
     asks true x h = h
     asks false x h = refl
@@ -72,7 +72,7 @@ module _ (b : Board) (m : List ℕ) where
         → f (step_of b (writing p x) m).board.timer ≡ f b.timer
     unfolding step_of answered_of decode_of unused outcome_of execute_of write_of timer_written dma_written slave_written
     write_leaves p x h =
-        asks (writable p) (Asked (Write p x))
+        asks (writable p) (Some (Write p x))
         (either Same (blocked b (Write p x)) (λ _. refl)
         (λ _. either Same (eqb (p / 16) 0) (λ _. refl)
         (λ _. either Same (eqb (p / 16) 1)
@@ -84,7 +84,7 @@ module _ (b : Board) (m : List ℕ) where
     pub read_leaves : (p : ℕ) → f (reads_of b.timer p).timer ≡ f b.timer → f (step_of b (reading p) m).board.timer ≡ f b.timer
     unfolding step_of answered_of decode_of unused outcome_of execute_of read_of timer_shown dma_shown slave_shown
     read_leaves p h =
-        asks (readable p) (Asked (Read p))
+        asks (readable p) (Some (Read p))
         (either Same (blocked b (Read p)) (λ _. refl)
         (λ _. either Same (eqb (p / 16) 0) (λ _. refl)
         (λ _. either Same (eqb (p / 16) 1)

@@ -1,4 +1,5 @@
 -- A record with a status other than 0 leaves everything, and its answer is fixed.
+use Rattle.std.specs.Prelude.{Option, Some, None}
 use mathlib.Core.Path.{◌≡◌, refl, sym, ap, ◌∙◌}
 use mathlib.Core.List.{List, [], ◌∷◌}
 use mathlib.Core.Bool.{Bool, true, false, true≢false}
@@ -9,8 +10,6 @@ use Rattle.std.specs.Prelude.{if◌then◌else◌}
 use Rattle.bits.specs.Bits.{bit_of}
 use Rattle.tape.specs.declared.Operation.{Operation}
 use Rattle.tape.specs.declared.Operation.TheVariants.{Reset, Write, Read, Intp, Gates, Requests, SlaveIntp, Acknowledge, Advance, Cycle}
-use Rattle.tape.specs.declared.Decoded.{Decoded}
-use Rattle.tape.specs.declared.Decoded.TheVariants.{Asked, Malformed}
 use Rattle.tape.specs.Records.{byte, decode_of}
 use Rattle.tape.specs.Answers.{twelve, answer_of}
 use Rattle.icu.specs.declared.Icu.{Icu}
@@ -128,10 +127,10 @@ module _ (b : Board) where
     execute_plain (Advance n) = no
     execute_plain (Cycle e x y) = no
 
-    outcome_plain : (x : Decoded) → P (outcome_of b x m)
+    outcome_plain : (x : Option Operation) → P (outcome_of b x m)
     unfolding outcome_of
-    outcome_plain Malformed = λ h. refl
-    outcome_plain (Asked o) = either P (blocked b o) (λ _ h. refl) (λ _. execute_plain o)
+    outcome_plain None = λ h. refl
+    outcome_plain (Some o) = either P (blocked b o) (λ _ h. refl) (λ _. execute_plain o)
 
     execute_memory : (o : Operation) → eqb (execute_of b o m).status 0 ≡ false → memory_after b o m ≡ m
     unfolding execute_of memory_after cycle_of
@@ -146,10 +145,10 @@ module _ (b : Board) where
     execute_memory (Advance n) h = refl
     execute_memory (Cycle e x y) h = no h
 
-    outcome_memory : (x : Decoded) → eqb (outcome_of b x m).status 0 ≡ false → memory_of b x m ≡ m
+    outcome_memory : (x : Option Operation) → eqb (outcome_of b x m).status 0 ≡ false → memory_of b x m ≡ m
     unfolding outcome_of memory_of
-    outcome_memory Malformed h = refl
-    outcome_memory (Asked o) h = go (blocked b o) h
+    outcome_memory None h = refl
+    outcome_memory (Some o) h = go (blocked b o) h
       where
         go : (q : Bool) → eqb (if q then refused 1 b else execute_of b o m).status 0 ≡ false → (if q then m else memory_after b o m) ≡ m
         go true h = refl

@@ -1,4 +1,6 @@
 -- Every number of a reached board is as wide as its type.
+use Rattle.tape.specs.declared.Operation.{Operation}
+use Rattle.std.specs.Prelude.{Option}
 use mathlib.Core.Path.{◌≡◌, refl, sym, ◌∙◌, subst}
 use mathlib.Core.List.{List, [], ◌∷◌, ◌++◌}
 use mathlib.Core.Bool.{Bool, true, false, not}
@@ -12,7 +14,6 @@ use borrow.Author.Tests.{eqb-true, eqb-false, ltb-true, ltb-false}
 use Rattle.bits.specs.Choice.{◌and◌}
 use Rattle.bits.specs.Bits.{bit_of, masked_of}
 use Rattle.tape.specs.declared.Operation.TheVariants.{Reset, Write, Read, Intp, Gates, Requests, SlaveIntp, Acknowledge, Advance, Cycle}
-use Rattle.tape.specs.declared.Decoded.{Decoded}
 use Rattle.tape.specs.Records.{byte, decode_of, pulse_count}
 use Rattle.tape.proofs.Decodes.{either, Decodes, malformed, reset, write, read, intp, gates, requests, slave_intp, acknowledge, advance, cycle, decodes}
 use Rattle.icu.specs.declared.Icu.{Icu}
@@ -24,8 +25,8 @@ use Rattle.icu.specs.Service as Service
 use Rattle.cascade.specs.Cascade.{slave_iw3, joined_of, answered, passed_on}
 use Rattle.timer.specs.declared.Counter.{Counter}
 use Rattle.timer.specs.declared.Timer.{Timer}
-use Rattle.timer.specs.declared.Written.{Written}
-use Rattle.timer.specs.declared.Got.{Got}
+use Rattle.timer.specs.Timer.{Written}
+use Rattle.timer.specs.Timer.{Got}
 use Rattle.timer.specs.Modes.{moded}
 use Rattle.timer.specs.Ports as Ports
 use Rattle.timer.specs.Ports.{Answer, SC, RWM, BCD, mode_set, mode_word, latch_word, control_of}
@@ -33,8 +34,8 @@ use Rattle.timer.specs.Pulse.{pulse_of, gate_of}
 use Rattle.timer.specs.Timer.{blank, at, three, resets_of, wrote_by, got_by, controls_of, writes_of, reads_of, pulses_of, gates_of}
 use Rattle.dma.specs.declared.Channel.{Channel}
 use Rattle.dma.specs.declared.Dma.{Dma}
-use Rattle.dma.specs.declared.Written.{Written as DmaWritten}
-use Rattle.dma.specs.declared.Got.{Got as DmaGot}
+use Rattle.dma.specs.Answers.{Written as DmaWritten}
+use Rattle.dma.specs.Answers.{Got as DmaGot}
 use Rattle.dma.specs.Fields.{none, chan}
 use Rattle.dma.specs.Registers as Registers
 use Rattle.dma.specs.Cycle as DmaCycle
@@ -437,7 +438,7 @@ module _ (b : Board) (s : Sized b) where
       (λ _. either B (answered b.icu b.slave) (λ _. with_icu _ (icu_acknowledge b.icu s.icu (lines b))) (λ _. s))
 
   module _ (r m : List ℕ) (h : (i : ℕ) → byte r i < 256) where
-    execute : (x : Decoded) → Decodes r x → B (outcome_of b x m)
+    execute : (x : Option Operation) → Decodes r x → B (outcome_of b x m)
     unfolding outcome_of execute_of advance_of cycle_of
     execute x malformed = s
     execute x (reset o) =

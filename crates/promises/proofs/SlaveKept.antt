@@ -1,4 +1,5 @@
 -- Records that do not name the slave leave it alone.
+use Rattle.std.specs.Prelude.{Option, Some, None}
 use mathlib.Core.Path.{◌≡◌, refl, sym, ◌∙◌}
 use mathlib.Core.Logic.{◌≢◌}
 use mathlib.Core.List.{List}
@@ -10,8 +11,6 @@ use borrow.Author.Tests.{eqb-true}
 use Rattle.bits.specs.Choice.{◌and◌, ◌or◌}
 use Rattle.tape.specs.declared.Operation.{Operation}
 use Rattle.tape.specs.declared.Operation.TheVariants.{Reset, Write, Read, Intp, Gates, Requests, SlaveIntp, Acknowledge, Advance, Cycle}
-use Rattle.tape.specs.declared.Decoded.{Decoded}
-use Rattle.tape.specs.declared.Decoded.TheVariants.{Asked, Malformed}
 use Rattle.tape.specs.Records.{byte, unused, writable, readable, asked_if, lines_asked, pulse_count, decode_of}
 use Rattle.timer.specs.Timer.{writes_of, reads_of}
 use Rattle.dma.specs.Registers as DmaRegisters
@@ -26,21 +25,21 @@ use Rattle.promises.proofs.Statuses.{writable_port}
 use Rattle.promises.proofs.OneChip.{past_first, past_second, dma_left}
 
 -- The slave's lines are asked for by group 3.
-abbrev Grouped : List ℕ → Decoded → Type 0
-Grouped r Malformed = Unit
-Grouped r (Asked Reset) = Unit
-Grouped r (Asked (Write p x)) = Unit
-Grouped r (Asked (Read p)) = Unit
-Grouped r (Asked (Intp l)) = Unit
-Grouped r (Asked (Gates l)) = Unit
-Grouped r (Asked (Requests l)) = Unit
-Grouped r (Asked (SlaveIntp l)) = eqb (byte r 1) 3 ≡ true
-Grouped r (Asked Acknowledge) = Unit
-Grouped r (Asked (Advance n)) = Unit
-Grouped r (Asked (Cycle e x y)) = Unit
+abbrev Grouped : List ℕ → Option Operation → Type 0
+Grouped r None = Unit
+Grouped r (Some Reset) = Unit
+Grouped r (Some (Write p x)) = Unit
+Grouped r (Some (Read p)) = Unit
+Grouped r (Some (Intp l)) = Unit
+Grouped r (Some (Gates l)) = Unit
+Grouped r (Some (Requests l)) = Unit
+Grouped r (Some (SlaveIntp l)) = eqb (byte r 1) 3 ≡ true
+Grouped r (Some Acknowledge) = Unit
+Grouped r (Some (Advance n)) = Unit
+Grouped r (Some (Cycle e x y)) = Unit
 
 module _ (r : List ℕ) where
-  asked : (q : Bool) (o : Operation) → Grouped r (Asked o) → Grouped r (asked_if q o)
+  asked : (q : Bool) (o : Operation) → Grouped r (Some o) → Grouped r (asked_if q o)
   asked true o g = g
   asked false o g = tt
 
@@ -84,7 +83,7 @@ module _ (b : Board) (r m : List ℕ) (names : names_slave r ≡ false) (no-rese
   left : (b.slave ≡ b.slave) × (b.slaveintp ≡ b.slaveintp)
   left = (refl, refl)
 
-  leaves : (d : Decoded) → Decodes r d → Grouped r d → Leaves (outcome_of b d m)
+  leaves : (d : Option Operation) → Decodes r d → Grouped r d → Leaves (outcome_of b d m)
   unfolding outcome_of execute_of write_of read_of timer_written timer_shown dma_written dma_shown slave_shown advance_of cycle_of
   leaves d malformed g = left
   leaves d (reset o) g = absurd (no-reset (eqb-true (byte r 0) 0 o))

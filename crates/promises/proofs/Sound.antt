@@ -13,8 +13,8 @@ use Rattle.bits.specs.Bits.{bit_of, with_of, masked_of}
 use Rattle.dma.specs.declared.Span.{Span}
 use Rattle.dma.specs.declared.Channel.{Channel}
 use Rattle.dma.specs.declared.Dma.{Dma}
-use Rattle.dma.specs.declared.Written.{Written}
-use Rattle.dma.specs.declared.Got.{Got}
+use Rattle.dma.specs.Answers.{Written}
+use Rattle.dma.specs.Answers.{Got}
 use Rattle.dma.specs.Fields.{none, chan, selected, served, masked_is, wide_is, requests_are}
 use Rattle.dma.specs.Registers.{unset, chosen, reset_of, requested_of, any_words, unbuilt_mode, refuses_mode, replaced_of, initialized_of, selected_of, loaded_of, controlled_of, moded_of, masked_by, write_of, read_of}
 use Rattle.dma.specs.Cycle.{down, auto, width, stepped, moved_by, moved_of, ready, channel_at, winner_from, winner, first_after, last_of, stops_of, releases, nothing_of, granted_of, released_of, unit_of, cycle_by, cycle_of}

@@ -1,4 +1,5 @@
 -- Each record's status is the one that the table gives.
+use Rattle.std.specs.Prelude.{Option, Some, None}
 use mathlib.Core.Path.{◌≡◌, refl, sym, ap, ◌∙◌}
 use mathlib.Core.List.{List}
 use mathlib.Core.Bool.{Bool, true, false, not, true≢false, false≢true}
@@ -12,8 +13,6 @@ use Rattle.std.specs.Prelude.{if◌then◌else◌}
 use Rattle.bits.specs.Bits.{bit_of, masked_of}
 use Rattle.tape.specs.declared.Operation.{Operation}
 use Rattle.tape.specs.declared.Operation.TheVariants.{Reset, Write, Read, Intp, Gates, Requests, SlaveIntp, Acknowledge, Advance, Cycle}
-use Rattle.tape.specs.declared.Decoded.{Decoded}
-use Rattle.tape.specs.declared.Decoded.TheVariants.{Asked, Malformed}
 use Rattle.tape.specs.Records.{byte, unused, icu_port, timer_port, dma_port, slave_port, writable, readable, lines_asked, pulse_count, decode_of}
 use Rattle.tape.specs.Answers.{answer_of}
 use Rattle.icu.specs.declared.Icu.{Icu}
@@ -33,8 +32,8 @@ use Rattle.timer.specs.Modes.{moded}
 use Rattle.timer.specs.Ports.{SC, RWM, CM, BCD, mode_in, held}
 use Rattle.timer.specs.Timer.{at, writes_of, reads_of, controls_of, wrote_by, got_by}
 use Rattle.dma.specs.declared.Dma.{Dma}
-use Rattle.dma.specs.declared.Written.{Written as DmaWritten}
-use Rattle.dma.specs.declared.Got.{Got as DmaGot}
+use Rattle.dma.specs.Answers.{Written as DmaWritten}
+use Rattle.dma.specs.Answers.{Got as DmaGot}
 use Rattle.dma.specs.Registers as DmaRegisters
 use Rattle.dma.specs.Registers.{any_words, refuses_mode}
 use Rattle.board.specs.declared.Board.{Board}
@@ -518,19 +517,19 @@ module _ (b : Board) where
       (λ h. rw h refl))
 
 -- Whether a record is well formed is told by its bytes alone.
-abbrev pub asked : Decoded → Bool
-asked Malformed = false
-asked (Asked o) = true
+abbrev pub asked : Option Operation → Bool
+asked None = false
+asked (Some o) = true
 
-asked_if : (q : Bool) (o : Operation) → asked (if q then Asked o else Malformed) ≡ q
+asked_if : (q : Bool) (o : Operation) → asked (if q then Some o else None) ≡ q
 asked_if true o = refl
 asked_if false o = refl
 
-asked_with : (q : Bool) (d : Decoded) (w : Bool) → asked d ≡ w → asked (if q then d else Malformed) ≡ (q and w)
+asked_with : (q : Bool) (d : Option Operation) (w : Bool) → asked d ≡ w → asked (if q then d else None) ≡ (q and w)
 asked_with true d w h = h
 asked_with false d w h = refl
 
-or_else : (q : Bool) (d e : Decoded) (v w : Bool) → asked d ≡ v → asked e ≡ w → asked (if q then d else e) ≡ (if q then v else w)
+or_else : (q : Bool) (d e : Option Operation) (v w : Bool) → asked d ≡ v → asked e ≡ w → asked (if q then d else e) ≡ (if q then v else w)
 or_else true d e v w h k = h
 or_else false d e v w h k = k
 
@@ -560,7 +559,7 @@ gated b true o k h = refl
 gated b false o k h = h
 
 module _ (b : Board) (r m : List ℕ) where
-  by : (x : Decoded) → Decodes r x → asked x ≡ formed r → (outcome_of b x m).status ≡ due b r
+  by : (x : Option Operation) → Decodes r x → asked x ≡ formed r → (outcome_of b x m).status ≡ due b r
   unfolding outcome_of execute_of blocked Ruled.held out_of_turn not_built counts_one advance_of cycle_of
   by x malformed f = rw (← f)
   by x (reset o) f = rw (← f, eqb-true (byte r 0) 0 o) (gated b (blocked b Reset) (execute_of b Reset m) 0 refl)

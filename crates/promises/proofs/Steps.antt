@@ -1,4 +1,5 @@
 -- One record of a tape, seen from the DMA chip.
+use Rattle.std.specs.Prelude.{Option, Some}
 use mathlib.Core.Path.{◌≡◌, refl, sym, ap, ap₂, ◌∙◌}
 use mathlib.Core.Logic.{◌≢◌}
 use mathlib.Core.List.{List}
@@ -12,15 +13,13 @@ use Rattle.bits.specs.Choice.{◌and◌, ◌or◌}
 use Rattle.std.specs.Prelude.{if◌then◌else◌}
 use Rattle.tape.specs.declared.Operation.{Operation}
 use Rattle.tape.specs.declared.Operation.TheVariants.{Reset, Write, Read, Intp, Gates, Requests, SlaveIntp, Acknowledge, Advance, Cycle}
-use Rattle.tape.specs.declared.Decoded.{Decoded}
-use Rattle.tape.specs.declared.Decoded.TheVariants.{Asked}
 use Rattle.tape.specs.Records.{byte, dma_port, decode_of, pulse_count}
 use Rattle.tape.specs.Answers.{twelve, answer_of}
 use Rattle.icu.specs.Words as IcuWords
 use Rattle.cascade.specs.Cascade.{slave_iw3, answered, passed_on}
 use Rattle.timer.specs.Timer.{writes_of, reads_of}
 use Rattle.dma.specs.declared.Dma.{Dma}
-use Rattle.dma.specs.declared.Got.{Got}
+use Rattle.dma.specs.Answers.{Got}
 use Rattle.dma.specs.Fields.{chan, served, word}
 use Rattle.dma.specs.Registers as DmaRegisters
 use Rattle.dma.specs.Report.{Told}
@@ -195,7 +194,7 @@ module _ (b : Board) (r m : List ℕ) where
       at false q = refl
 
   -- A record that needs the bus while a channel is served changes nothing.
-  held : (o : Operation) → Fine (execute_of b o m) (memory_after b o m) → Fine (outcome_of b (Asked o) m) (memory_of b (Asked o) m)
+  held : (o : Operation) → Fine (execute_of b o m) (memory_after b o m) → Fine (outcome_of b (Some o) m) (memory_of b (Some o) m)
   unfolding outcome_of memory_of answer_of
   held o f = at (blocked b o)
     where
@@ -215,7 +214,7 @@ module _ (b : Board) (r m : List ℕ) where
       at true = refl
       at false = refl
 
-  by : (x : Decoded) → Sound b.dma → Decodes r x → Fine (outcome_of b x m) (memory_of b x m)
+  by : (x : Option Operation) → Sound b.dma → Decodes r x → Fine (outcome_of b x m) (memory_of b x m)
   unfolding outcome_of memory_of execute_of memory_after answer_of write_of advance_of DmaRegisters.requested_of cycle_of cycle_memory
   by x s malformed = λ c. same refl refl refl refl refl
   by x s (reset o) = held Reset (λ c. absurd (true≢false (sym (ap (λ (u : Bool). u or (eqb (byte r 0) 1 and dma_port (byte r 1))) o) ∙ c)))

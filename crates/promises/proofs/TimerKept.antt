@@ -10,8 +10,8 @@ use Rattle.bits.specs.Choice.{◌or◌}
 use Rattle.bits.specs.Bits.{bit_of}
 use Rattle.timer.specs.declared.Counter.{Counter}
 use Rattle.timer.specs.declared.Timer.{Timer}
-use Rattle.timer.specs.declared.Written.{Written}
-use Rattle.timer.specs.declared.Got.{Got}
+use Rattle.timer.specs.Timer.{Written}
+use Rattle.timer.specs.Timer.{Got}
 use Rattle.timer.specs.Modes.{moded}
 use Rattle.timer.specs.Ports.{reset_of, Answer, SC, RWM, CM, BCD, mode_in, mode_set, mode_word, latch_word, control_of, count_of, begun, write_of, read_of}
 use Rattle.timer.specs.Pulse.{pulse_of, gate_of}

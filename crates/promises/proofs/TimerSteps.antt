@@ -1,4 +1,6 @@
 -- What a record does to the timer.
+use Rattle.tape.specs.declared.Operation.{Operation}
+use Rattle.std.specs.Prelude.{Option}
 use mathlib.Core.Path.{◌≡◌, refl, sym, ◌∙◌}
 use mathlib.Core.List.{List}
 use mathlib.Core.Bool.{true, true≢false}
@@ -8,7 +10,6 @@ use lib.Dec.{eqb}
 use lib.ListN.{get_or}
 use borrow.Author.Tests.{eqb-true, leb-true, ltb-true}
 use Rattle.tape.specs.declared.Operation.TheVariants.{Reset, Write, Read, Intp, Gates, Requests, SlaveIntp, Acknowledge, Advance, Cycle}
-use Rattle.tape.specs.declared.Decoded.{Decoded}
 use Rattle.tape.specs.Records.{byte, pulse_count, decode_of}
 use Rattle.tape.specs.Answers.{answer_of}
 use Rattle.icu.specs.Words as IcuWords
@@ -45,7 +46,7 @@ module _ (b : Board) (r m : List ℕ) where
   abbrev Does : Outcome → Type 0
   Does o = Timed b r o.status o.board.timer
 
-  does : (x : Decoded) → Decodes r x → Does (outcome_of b x m)
+  does : (x : Option Operation) → Decodes r x → Does (outcome_of b x m)
   unfolding outcome_of execute_of write_of read_of timer_written timer_shown dma_written dma_shown slave_written slave_shown slave_gives acknowledge_of advance_of cycle_of
   does x malformed = stays
   does x (reset o) = either Does (blocked b Reset) (λ _. stays) (λ _. resets (eqb-true (byte r 0) 0 o) refl)

@@ -1,4 +1,5 @@
 -- What a record can make of the DMA chip: a reset, a write or a read of its registers, other request lines, a bus cycle. Every other record leaves it.
+use Rattle.std.specs.Prelude.{Option, Some, None}
 use mathlib.Core.Path.{◌≡◌}
 use mathlib.Core.List.{List}
 use mathlib.Core.Bool.{true}
@@ -6,8 +7,6 @@ use Prim.Native.Nat.{ℕ, ◌/◌}
 use lib.Dec.{eqb}
 use Rattle.tape.specs.declared.Operation.{Operation}
 use Rattle.tape.specs.declared.Operation.TheVariants.{Reset, Write, Read, Intp, Gates, Requests, SlaveIntp, Acknowledge, Advance, Cycle}
-use Rattle.tape.specs.declared.Decoded.{Decoded}
-use Rattle.tape.specs.declared.Decoded.TheVariants.{Asked, Malformed}
 use Rattle.tape.specs.Records.{decode_of}
 use Rattle.icu.specs.Words as IcuWords
 use Rattle.cascade.specs.Cascade.{slave_iw3, answered, passed_on}
@@ -36,9 +35,9 @@ On P d m Acknowledge = Unit
 On P d m (Advance n) = Unit
 On P d m (Cycle e x y) = P (cycle_of d e x y m).dma
 
-abbrev pub OnAsked : (Dma → Type 0) → Dma → List ℕ → Decoded → Type 0
-OnAsked P d m Malformed = Unit
-OnAsked P d m (Asked o) = On P d m o
+abbrev pub OnAsked : (Dma → Type 0) → Dma → List ℕ → Option Operation → Type 0
+OnAsked P d m None = Unit
+OnAsked P d m (Some o) = On P d m o
 
 module _ (P : Dma → Type 0) (b : Board) (m : List ℕ) (f : P b.dma) where
   abbrev Kept : Outcome → Type 0
@@ -70,10 +69,10 @@ module _ (P : Dma → Type 0) (b : Board) (m : List ℕ) (f : P b.dma) where
   executed (Advance n) h = f
   executed (Cycle e x y) h = h
 
-  outcome : (x : Decoded) → OnAsked P b.dma m x → Kept (outcome_of b x m)
+  outcome : (x : Option Operation) → OnAsked P b.dma m x → Kept (outcome_of b x m)
   unfolding outcome_of
-  outcome Malformed h = f
-  outcome (Asked o) h = either Kept (blocked b o) (λ _. f) (λ _. executed o h)
+  outcome None h = f
+  outcome (Some o) h = either Kept (blocked b o) (λ _. f) (λ _. executed o h)
 
   pub touched : (r : List ℕ) → OnAsked P b.dma m (decode_of r) → P (step_of b r m).board.dma
   unfolding step_of answered_of
@@ -83,6 +82,6 @@ module _ (P : Dma → Type 0) (b : Board) (m : List ℕ) (f : P b.dma) where
   pub touched_by : ((o : Operation) → On P b.dma m o) → (r : List ℕ) → P (step_of b r m).board.dma
   touched_by h r = touched r (at (decode_of r))
     where
-      at : (x : Decoded) → OnAsked P b.dma m x
-      at Malformed = tt
-      at (Asked o) = h o
+      at : (x : Option Operation) → OnAsked P b.dma m x
+      at None = tt
+      at (Some o) = h o

@@ -1,4 +1,6 @@
 -- A record that is no reset and no write to 20H or 2AH leaves the width of the bus, and every channel's mode.
+use Rattle.tape.specs.declared.Operation.{Operation}
+use Rattle.std.specs.Prelude.{Option}
 use mathlib.Core.Path.{◌≡◌, refl, ap, ◌∙◌}
 use mathlib.Core.Logic.{◌≢◌}
 use mathlib.Core.List.{List}
@@ -10,13 +12,12 @@ use lib.ListN.{get_or, set}
 use borrow.Author.Tests.{eqb-true, eqb-false}
 use Rattle.bits.specs.Choice.{◌or◌}
 use Rattle.bits.specs.Bits.{masked_of}
-use Rattle.tape.specs.declared.Decoded.{Decoded}
 use Rattle.tape.specs.Records.{byte, decode_of}
 use Rattle.tape.proofs.Decodes.{either, Decodes, malformed, reset, write, read, intp, gates, requests, slave_intp, acknowledge, advance, cycle, decodes}
 use Rattle.dma.specs.declared.Channel.{Channel}
 use Rattle.dma.specs.declared.Dma.{Dma}
-use Rattle.dma.specs.declared.Written.{Written}
-use Rattle.dma.specs.declared.Got.{Got}
+use Rattle.dma.specs.Answers.{Written}
+use Rattle.dma.specs.Answers.{Got}
 use Rattle.dma.specs.Fields.{none, chan, selected, served}
 use Rattle.dma.specs.Registers.{chosen, requested_of, selected_of, loaded_of, controlled_of, masked_by, write_of, read_of}
 use Rattle.dma.specs.Cycle.{moved_of, winner, last_of, releases, nothing_of, granted_of, released_of, unit_of, cycle_by, cycle_of}
@@ -122,7 +123,7 @@ widths_kept b r m no-reset h =
     let s = touched (Same b.dma) b m (still b.dma refl refl) r (at (decode_of r) (decodes r)) in
     (s.wide, s.modes)
   where
-    at : (x : Decoded) → Decodes r x → OnAsked (Same b.dma) b.dma m x
+    at : (x : Option Operation) → Decodes r x → OnAsked (Same b.dma) b.dma m x
     at x malformed = tt
     at x (reset o) = absurd (no-reset (eqb-true (byte r 0) 0 o))
     at x (write o w) = λ q.

@@ -1,13 +1,12 @@
 -- The board with one interrupt chip, as it is without a slave.
 -- It has the same timer, DMA chip and interrupt chip, by the same rules, but for the words that set the interrupt chip up, which are written out here; ports 30H-31H and group 3 are not there, and an
 -- IW1 with D1=0 is not built. The statements of Cascade.antt hold the board with two chips against it.
+use Rattle.std.specs.Prelude.{Option, Some, None}
 use Rattle.std.specs.Prelude.{ℕ, zero, suc, ◌/◌, Bool, not, List, [], ◌++◌, eqb, if◌then◌else◌}
 use Rattle.bits.specs.Choice.{◌and◌, ◌or◌}
 use Rattle.bits.specs.Bits.{bit_of}
 use Rattle.tape.specs.declared.Operation.{Operation}
 use Rattle.tape.specs.declared.Operation.TheVariants.{Reset, Write, Read, Intp, Gates, Requests, SlaveIntp, Acknowledge, Advance, Cycle}
-use Rattle.tape.specs.declared.Decoded.{Decoded}
-use Rattle.tape.specs.declared.Decoded.TheVariants.{Asked, Malformed}
 use Rattle.tape.specs.Records.{byte, decode_of, uses_bus}
 use Rattle.tape.specs.Answers.{answer_of, twelve}
 use Rattle.icu.specs.declared.Icu.{Icu}
@@ -151,26 +150,26 @@ execute_one o (Cycle end x y) m =
     }
 
 -- 2 by the record's bytes alone, then 1, then what the operation itself refuses.
-abbrev pub decode_one : List ℕ → Decoded
-decode_one r = if names_slave r then Malformed else decode_of r
+abbrev pub decode_one : List ℕ → Option Operation
+decode_one r = if names_slave r then None else decode_of r
 
-unfoldable pub outcome_one : One → Decoded → List ℕ → Did
-outcome_one o Malformed m = did_not 2 o
-outcome_one o (Asked x) m = if o.dma.serving and uses_bus x then did_not 1 o else execute_one o x m
+unfoldable pub outcome_one : One → Option Operation → List ℕ → Did
+outcome_one o None m = did_not 2 o
+outcome_one o (Some x) m = if o.dma.serving and uses_bus x then did_not 1 o else execute_one o x m
 
 -- Of the operations a DMA cycle alone touches the memory.
-unfoldable pub memory_one : One → Decoded → List ℕ → List ℕ
-memory_one o Malformed m = m
-memory_one o (Asked (Cycle end x y)) m = (DmaCycle.cycle_of o.dma end x y m).memory
-memory_one o (Asked Reset) m = m
-memory_one o (Asked (Write p x)) m = m
-memory_one o (Asked (Read p)) m = m
-memory_one o (Asked (Intp levels)) m = m
-memory_one o (Asked (Gates levels)) m = m
-memory_one o (Asked (Requests levels)) m = m
-memory_one o (Asked (SlaveIntp levels)) m = m
-memory_one o (Asked Acknowledge) m = m
-memory_one o (Asked (Advance n)) m = m
+unfoldable pub memory_one : One → Option Operation → List ℕ → List ℕ
+memory_one o None m = m
+memory_one o (Some (Cycle end x y)) m = (DmaCycle.cycle_of o.dma end x y m).memory
+memory_one o (Some Reset) m = m
+memory_one o (Some (Write p x)) m = m
+memory_one o (Some (Read p)) m = m
+memory_one o (Some (Intp levels)) m = m
+memory_one o (Some (Gates levels)) m = m
+memory_one o (Some (Requests levels)) m = m
+memory_one o (Some (SlaveIntp levels)) m = m
+memory_one o (Some Acknowledge) m = m
+memory_one o (Some (Advance n)) m = m
 
 -- The answer: sixteen bytes, with the levels after the record.
 abbrev pub answer_one : ℕ → Did → List ℕ

@@ -1,340 +1,197 @@
 // What needs no board: a lesson that is checked or made into a tape, a tape or answers that are put into words.
-use crate::held::Held;
-use crate::lines::Lines;
+use crate::held::Tape;
+use crate::lines::{End, Lines};
+use crate::output::Stop;
 use crate::source::Source;
-use crate::{held, lines, output, pieces, usage};
-use notation::line::Parsed;
-use notation::word;
+use crate::usage::Mode;
+use crate::{lines, output, pieces};
+use notation::line::What;
+use notation::record::RecordLine;
+use sentences::Message;
 use sentences::bytes::{Answer, Record};
-use sentences::text;
 
-// What is done with the bytes of a tape, or of answers.
-pub const LIST: u8 = 0;
-
-pub const EXPLAIN: u8 = 1;
-
-// The record of a line that comes at a place of its text; the text's characters are the device's bytes.
-pub fn record_of(line: &[u8; 1000], p: Parsed, at: usize) -> Record {
-    let bytes = p.bytes;
-    let mut r = Record::of(bytes);
-    if at < p.to {
-        r.byte = word::byte_at(line, at);
+// A record of a line, by its place in the line's text; the text's characters are the device's bytes.
+pub fn record_of(line: &[u8], said: &RecordLine, place: usize) -> Record {
+    let mut record = Record::from(said.bytes);
+    if let Some(byte) = said.text.of(line).get(place) {
+        record.byte = *byte;
     }
-    r
+    record
 }
 
-// Whether a text was read whole, is good, and has a record; says why not. `written` is 1 where the text was to be written, and not run.
-fn judge(path: &[u8], lines: Lines, records: u64, written: u8) -> u8 {
-    if lines.failed {
-        return report::FAILED;
-    }
-    let sentence = fault(records, lines.bad, lines.stopped, written);
-    if sentence == 0 {
-        return report::WELL;
-    }
-    output::tell(path, sentence, lines.bad);
-    report::FAILED
+// How many records there are each time that a line is run: one, or one for each character of its text.
+pub fn count_records(line: &[u8], said: &RecordLine) -> usize {
+    said.text.of(line).len().max(1)
 }
 
-// The sentence for what is wrong with a text, 0 for nothing.
-fn fault(records: u64, bad: u64, stopped: bool, written: u8) -> u8 {
-    if 0 < bad {
-        if stopped {
-            return 0x12 + written % 2;
-        }
-        return 0x10 + written % 2;
-    }
-    if records == 0 {
-        return 0x14 + written % 2;
-    }
-    0
-}
-
-// A lesson that was read to its end: how that went, and how many guesses it asks for.
+// What is to be done with a lesson.
 #[derive(Clone, Copy)]
-pub struct Checked {
-    pub status: u8,
-    pub questions: u64,
+enum Purpose {
+    Run,
+    Write,
 }
 
-// Whether each line of a lesson is good, and there is a record.
-fn check(source: &Source, path: &[u8]) -> Checked {
-    let mut line = [0u8; 1000];
-    let mut lump = [0u8; 65536];
-    let mut lines = Lines::start(false, lines::TOLD);
-    let mut records: u64 = 0;
-    let mut questions: u64 = 0;
-    let mut turns = u64::MAX;
-    while turns > 0 {
-        let t = lines::take(source, path, &mut line, &mut lump, lines);
-        lines = t.lines;
-        if !lines.more {
-            return Checked {
-                status: judge(path, lines, records, 0),
-                questions: questions,
-            };
+// Whether a text was read whole, is good, and has a record; says why not.
+fn judge(
+    lines: &Lines<'_>,
+    path: &[u8],
+    end: End,
+    has_record: bool,
+    purpose: Purpose,
+) -> Result<(), Stop> {
+    let fault = match (purpose, end, lines.bad) {
+        (_, End::Failed, _) => return Err(Stop::Text),
+        (_, _, 0) if has_record => return Ok(()),
+        (Purpose::Run, _, 0) => Message::NothingToRun,
+        (Purpose::Write, _, 0) => Message::NothingToWrite,
+        (Purpose::Run, End::Stopped, bad) => Message::BadUnreadNotRun(bad),
+        (Purpose::Write, End::Stopped, bad) => Message::BadUnreadNotWritten(bad),
+        (Purpose::Run, _, bad) => Message::BadNotRun(bad),
+        (Purpose::Write, _, bad) => Message::BadNotWritten(bad),
+    };
+    output::tell(path, fault);
+    Err(Stop::Text)
+}
+
+// Whether each line of a lesson is good, and there is a record; answers whether it asks for a guess.
+fn check(source: &Source, path: &[u8]) -> Result<bool, Stop> {
+    let mut lines = Lines::start(source, path, false, lines::TOLD);
+    let mut has_record = false;
+    let mut has_question = false;
+    for _ in 0..u64::MAX {
+        match lines.take() {
+            Ok(parsed) => {
+                has_record |= parsed.is_record();
+                has_question |= parsed.is_asked();
+            }
+            Err(end) => {
+                judge(&lines, path, end, has_record, Purpose::Run)?;
+                return Ok(has_question);
+            }
         }
-        records = count(records, t.parsed.kind == Parsed::RECORD);
-        questions = count(questions, t.parsed.check == Parsed::ASKED);
-        turns -= 1;
     }
-    ended(report::FAILED)
+    Err(Stop::Text)
 }
 
-// A lesson is read twice: here to see that each line is good, and then to run it. Its title is printed if it is. Lines that are typed have no title.
-pub fn prepare(mode: u8, source: &Source, path: &[u8]) -> Checked {
-    if mode == usage::TRY {
-        return printed(sentences::print_heads(), 0);
+// A lesson is read twice: here to see that each line is good, and then to run it. Its title is printed if it is. Lines that are typed have no title. Answers whether it
+// asks for a guess.
+pub fn prepare(mode: Mode, source: &Source, path: &[u8]) -> Result<bool, Stop> {
+    if mode == Mode::Try {
+        output::written(sentences::print_heads())?;
+        return Ok(false);
     }
-    if !lines::rewind(source, path) {
-        return ended(report::FAILED);
-    }
-    let checked = check(source, path);
-    if checked.status != report::WELL {
-        return checked;
-    }
-    if !lines::rewind(source, path) {
-        return ended(report::FAILED);
-    }
-    printed(output::print_title(path), checked.questions)
-}
-
-// What stands above the rows is printed, or could not be.
-fn printed(well: bool, questions: u64) -> Checked {
-    if well {
-        return Checked {
-            status: report::WELL,
-            questions: questions,
-        };
-    }
-    ended(output::fail())
-}
-
-fn ended(status: u8) -> Checked {
-    Checked {
-        status: status,
-        questions: 0,
-    }
-}
-
-fn count(n: u64, more: bool) -> u64 {
-    if more {
-        return text::more(n);
-    }
-    n
-}
-
-// A tape under way: its records, and its temporary file.
-#[derive(Drop)]
-struct Tape {
-    records: u64,
-    file: Held,
+    lines::rewind(source, path)?;
+    let has_question = check(source, path)?;
+    lines::rewind(source, path)?;
+    output::written(output::print_title(path))?;
+    Ok(has_question)
 }
 
 // A lesson as a tape. Only that of a good one goes out.
-pub fn assemble(rt: &HostRuntime, source: &Source, path: &[u8]) -> u8 {
-    let mut line = [0u8; 1000];
-    let mut lump = [0u8; 65536];
-    let mut store = [0u8; 65536];
-    let mut tape = Tape {
-        records: 0,
-        file: Held::None,
-    };
-    let mut lines = Lines::start(false, lines::TOLD);
-    let mut turns = u64::MAX;
-    while turns > 0 {
-        let t = lines::take(source, path, &mut line, &mut lump, lines);
-        lines = t.lines;
-        if !lines.more {
-            return end_tape(path, lines, tape, &store);
+pub fn assemble(rt: &HostRuntime, source: &Source, path: &[u8]) -> Result<(), Stop> {
+    let mut lines = Lines::start(source, path, false, lines::TOLD);
+    let mut tape = Tape::new();
+    for _ in 0..u64::MAX {
+        match lines.take() {
+            // after a bad line there will be no tape
+            Ok(parsed) => {
+                if let What::Record(said) = parsed.what
+                    && lines.bad == 0
+                {
+                    hold_line(rt, &mut tape, lines.line(), &said)?;
+                }
+            }
+            Err(end) => {
+                judge(&lines, path, end, !tape.is_empty(), Purpose::Write)?;
+                return tape.write();
+            }
         }
-        tape = hold_line(rt, &line, t.parsed, tape, &mut store, lines.bad);
-        if tape.file.is_lost() {
-            return report::FAILED;
-        }
-        turns -= 1;
     }
-    report::FAILED
+    Err(Stop::Text)
 }
 
-fn end_tape(path: &[u8], lines: Lines, tape: Tape, store: &[u8; 65536]) -> u8 {
-    let judged = judge(path, lines, tape.records, 1);
-    let mut status = judged;
-    if judged == report::WELL {
-        status = held::write_all(&tape.file, tape.records, store);
-    }
-    held::close(tape.file);
-    status
-}
-
-// The records of a line; after a bad line there will be no tape.
+// The records of a line, as often as it says.
 fn hold_line(
     rt: &HostRuntime,
-    line: &[u8; 1000],
-    p: Parsed,
-    tape: Tape,
-    store: &mut [u8; 65536],
-    bad: u64,
-) -> Tape {
-    let mut next = tape;
-    if p.kind != Parsed::RECORD {
-        return next;
-    }
-    if 0 < bad {
-        next.records = text::more(next.records);
-        return next;
-    }
-    let mut left = p.times;
-    while left > 0 {
-        next = hold_once(rt, line, p, next, store);
-        if next.file.is_lost() {
-            return next;
-        }
-        left -= 1;
-    }
-    next
-}
-
-// The record once, or its text.
-fn hold_once(
-    rt: &HostRuntime,
-    line: &[u8; 1000],
-    p: Parsed,
-    tape: Tape,
-    store: &mut [u8; 65536],
-) -> Tape {
-    let mut next = tape;
-    let mut at = p.from;
-    while at < 1000 {
-        let r = record_of(line, p, at);
-        next.file = held::hold_record(rt, next.file, next.records, r.bytes(), store);
-        next.records = text::more(next.records);
-        at += 1;
-        if p.to <= at {
-            return next;
-        }
-        if next.file.is_lost() {
-            return next;
+    tape: &mut Tape,
+    line: &[u8],
+    said: &RecordLine,
+) -> Result<(), Stop> {
+    for _ in 0..said.times {
+        for place in 0..count_records(line, said) {
+            tape.push(rt, record_of(line, said, place).into())?;
         }
     }
-    next
+    Ok(())
 }
 
-// A tape or answers under way: the one that is not whole yet.
-#[derive(Clone, Copy)]
-struct Pieces {
-    mode: u8,
-    held: usize,
-    kept: [u8; 16],
-    records: u64,
-    written: bool,
-    // there may be more to read; if not, how it went
-    more: bool,
-    status: u8,
+// One of the pieces of N bytes that a tape is made of, or what was answered to it.
+trait Piece<const N: usize>: From<[u8; N]> {
+    // They are counted from 1.
+    fn print(self, number: u64) -> bool;
 }
 
-fn size(mode: u8) -> usize {
-    if mode == LIST {
-        return 8;
+impl Piece<8> for Record {
+    fn print(self, _number: u64) -> bool {
+        pieces::line_of(self).print_line()
     }
-    16
 }
 
-// A byte of a record or an answer.
-fn take_byte(pieces: Pieces, x: u8) -> Pieces {
-    let mut next = pieces;
-    let at = pieces.held % 16;
-    next.kept[at] = x;
-    if at + 1 < size(pieces.mode) {
-        next.held = at + 1;
-        return next;
+impl Piece<16> for Answer {
+    fn print(self, number: u64) -> bool {
+        pieces::print_answer(number, self)
     }
-    next.held = 0;
-    next.records = text::more(pieces.records);
-    let kept = next.kept;
-    next.written = print_piece(next.mode, next.records, kept);
-    next
 }
 
-fn print_piece(mode: u8, number: u64, kept: [u8; 16]) -> bool {
-    let answer = Answer::of(kept);
-    if mode == LIST {
-        return pieces::line_of(answer.record()).put(b'\n').print();
-    }
-    pieces::print_answer(number, answer)
+// A tape, a record on each line.
+pub fn list(source: &Source, path: &[u8]) -> Result<(), Stop> {
+    tell::<8, Record>(source, path)
 }
 
-fn take_bytes(pieces: Pieces, lump: &[u8]) -> Pieces {
-    let mut next = pieces;
-    let mut i = 0;
-    while i < lump.len() {
-        let x = lump[i];
-        i += 1;
-        next = take_byte(next, x);
-        if !next.written {
-            return next;
-        }
-    }
-    next
-}
-
-// One read.
-fn take_lump(source: &Source, path: &[u8], pieces: Pieces) -> Pieces {
-    let mut lump = io::large_buffer();
-    let mut next = pieces;
-    let n = match source.read(&mut lump) {
-        Ok(n) => n,
-        Err(e) => {
-            report::fail_of(path, &e);
-            next.more = false;
-            next.status = report::FAILED;
-            return next;
-        }
-    };
-    if n == 0 {
-        next.more = false;
-        next.status = tell_cut(path, pieces.held, pieces.records);
-        return next;
-    }
-    take_bytes(pieces, &lump[..n])
+// Answers, a row for each.
+pub fn explain(source: &Source, path: &[u8]) -> Result<(), Stop> {
+    output::written(sentences::print_answer_heads())?;
+    tell::<16, Answer>(source, path)
 }
 
 // A tape or answers, put into words.
-pub fn tell(mode: u8, source: &Source, path: &[u8]) -> u8 {
-    let mut next = Pieces {
-        mode: mode,
-        held: 0,
-        kept: [0u8; 16],
-        records: 0,
-        written: true,
-        more: true,
-        status: report::FAILED,
-    };
-    if mode == EXPLAIN {
-        next.written = sentences::print_answer_heads();
-    }
-    let mut turns = u64::MAX;
-    while turns > 0 {
-        if !next.written {
-            return output::fail();
+fn tell<const N: usize, P: Piece<N>>(source: &Source, path: &[u8]) -> Result<(), Stop> {
+    let mut lump = io::large_buffer();
+    // the piece under way, and how many bytes of it there are
+    let mut piece = [0; N];
+    let mut held: usize = 0;
+    let mut count: u64 = 0;
+    for _ in 0..u64::MAX {
+        let n = match source.read(&mut lump) {
+            Ok(0) => return end_pieces(path, held, count),
+            Ok(n) => n,
+            Err(error) => {
+                report::fail_of(path, &error);
+                return Err(Stop::Text);
+            }
+        };
+        for x in &lump[..n] {
+            if held < N {
+                piece[held] = *x;
+            }
+            held = held.saturating_add(1);
+            if N <= held {
+                held = 0;
+                count = count.saturating_add(1);
+                output::written(P::from(piece).print(count))?;
+            }
         }
-        if !next.more {
-            return next.status;
-        }
-        next = take_lump(source, path, next);
-        turns -= 1;
     }
-    report::FAILED
+    Err(Stop::Text)
 }
 
-fn tell_cut(path: &[u8], held: usize, records: u64) -> u8 {
-    if 0 < held {
-        output::tell(path, 0x18, held as u64);
-        return report::FAILED;
-    }
-    if records == 0 {
-        output::tell(path, 0x17, 0);
-        return report::FAILED;
-    }
-    report::WELL
+// Says what is wrong with what was read to its end: bytes are left over, or there were none.
+fn end_pieces(path: &[u8], left: usize, count: u64) -> Result<(), Stop> {
+    let fault = match (left, count) {
+        (0, 0) => Message::Empty,
+        (0, _) => return Ok(()),
+        _ => Message::HalfRecord(left as u64),
+    };
+    output::tell(path, fault);
+    Err(Stop::Text)
 }

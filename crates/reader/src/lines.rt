@@ -1,300 +1,234 @@
 // The lines of a text, one after another, from a file or standard input, as what they come to. A bad line is told, and passed over.
 use crate::output;
+use crate::output::Stop;
 use crate::source::Source;
+use arrayvec::ArrayVec;
+use notation::fault::{Bad, Fault};
 use notation::line;
 use notation::line::Parsed;
 use notation::place::Place;
 use report::STDERR;
-use sentences::text;
+use sentences::Message;
 
 // How many bad lines of a lesson are told: reading stops at the last of them.
 pub const TOLD: u64 = 10;
 
-// A text under way. Its line and the lump that was read last are lent arrays beside it.
-#[derive(Clone, Copy)]
-pub struct Lines {
-    // lines ended so far, and the bytes of the one under way, as far as they are counted
-    pub line: u64,
-    pub held: usize,
-    // what is not taken yet of the lump
+// How many bytes of a line are kept, and how many are counted.
+const KEPT: usize = 1000;
+
+const COUNTED: usize = 101000;
+
+// Why there are no more lines.
+#[derive(Clone, Copy, PartialEq, Eq)]
+pub enum End {
+    // the text was read to its end
+    Text,
+    // reading stopped before that, at a bad line
+    Stopped,
+    // reading failed, which was told
+    Failed,
+}
+
+// A text under way.
+#[derive(Drop)]
+pub struct Lines<'a> {
+    source: &'a Source,
+    path: &'a [u8],
+    // what was read last, and of that what is not taken yet
+    lump: [u8; 65536],
     from: usize,
     to: usize,
+    // the line under way, or the last one: its first bytes, and how many it has
+    line: ArrayVec<u8, KEPT>,
+    held: usize,
+    // at each place the byte that the last line which reaches it has there
+    left: [u8; KEPT],
+    // its number, from 1
+    pub number: u64,
     pub place: Place,
     // bad lines so far, and how many may be told
     pub bad: u64,
     most: u64,
-    // the line is whole
-    whole: bool,
-    // there may be more lines
-    pub more: bool,
-    // reading stopped before the end of the text, at a bad line
-    pub stopped: bool,
-    // reading failed, which was told
-    pub failed: bool,
 }
 
-// The text, and its next good line; where there are no more, no line.
-#[derive(Clone, Copy)]
-pub struct Taken {
-    pub lines: Lines,
-    pub parsed: Parsed,
-}
-
-impl Lines {
+impl<'a> Lines<'a> {
     // `typed`: the lines are typed and not a lesson's. `most`: so many bad lines are told.
-    pub fn start(typed: bool, most: u64) -> Lines {
+    pub fn start(source: &'a Source, path: &'a [u8], typed: bool, most: u64) -> Lines<'a> {
         Lines {
-            line: 0,
-            held: 0,
+            source,
+            path,
+            lump: [0; 65536],
             from: 0,
             to: 0,
+            line: ArrayVec::new(),
+            held: 0,
+            left: [0; KEPT],
+            number: 0,
             place: Place::start(typed),
             bad: 0,
-            most: most,
-            whole: false,
-            more: true,
-            stopped: false,
-            failed: false,
+            most,
+        }
+    }
+}
+
+impl Lines<'_> {
+    // The bytes of the line that was taken last, without its line feed.
+    pub fn line(&self) -> &[u8] {
+        self.line.as_slice()
+    }
+
+    // The next good line, which may be empty.
+    pub fn take(&mut self) -> Result<Parsed, End> {
+        for _ in 0..u64::MAX {
+            self.read_line()?;
+            match self.judge() {
+                Ok(parsed) => {
+                    self.place = self.place.after(&parsed);
+                    return Ok(parsed);
+                }
+                Err(bad) => {
+                    self.tell_bad(bad)?;
+                    // what was meant below it is not bad by itself
+                    self.place = self.place.after_bad();
+                }
+            }
+        }
+        Err(End::Stopped)
+    }
+
+    // A whole line: what it comes to where it stands. One that is too long was told already, and comes to nothing.
+    fn judge(&self) -> Result<Parsed, Bad> {
+        if KEPT < self.held {
+            return Ok(Parsed::EMPTY);
+        }
+        match line::parse(self.line()) {
+            Ok(parsed) => self.place.judge(parsed),
+            Err(bad) => Err(self.named(bad)),
         }
     }
 
-    fn stop(mut self) -> Lines {
-        self.more = false;
-        self.stopped = true;
-        self
+    // A guess that its line ends with has no colon, which is told; but not where an earlier line has a colon just there: then its answer is missing.
+    fn named(&self, bad: Bad) -> Bad {
+        let end = self.line.len();
+        if bad == Bad::at(end, Fault::Colon) && self.left.get(end).copied() == Some(b':') {
+            Bad::at(end, Fault::Answer)
+        } else {
+            bad
+        }
+    }
+
+    // The line under way is bad.
+    fn tell_bad(&mut self, bad: Bad) -> Result<(), End> {
+        self.tell_line(bad);
+        self.count_bad()
+    }
+
+    // By file, line and column.
+    fn tell_line(&self, bad: Bad) {
+        report::print_name(STDERR, self.path);
+        sentences::bad_line(bad.fault, self.number, bad.column as u64, bad.found)
+            .put(b'\n')
+            .complain();
+    }
+
+    // A bad line that was told. At the last that may be, reading stops.
+    pub fn count_bad(&mut self) -> Result<(), End> {
+        self.bad = self.bad.saturating_add(1);
+        if self.bad < self.most {
+            Ok(())
+        } else {
+            Err(End::Stopped)
+        }
+    }
+
+    // Reads until a line is whole.
+    fn read_line(&mut self) -> Result<(), End> {
+        self.line.clear();
+        self.held = 0;
+        self.number = self.number.saturating_add(1);
+        for _ in 0..u64::MAX {
+            if self.take_rest()? {
+                return Ok(());
+            }
+            self.refill()?;
+        }
+        Err(End::Stopped)
+    }
+
+    // What is left of the lump, up to the end of the line: whether that was there.
+    fn take_rest(&mut self) -> Result<bool, End> {
+        for at in self.from..self.to {
+            let Some(x) = self.lump.get(at).copied() else {
+                break;
+            };
+            self.from = at + 1;
+            if x == b'\n' {
+                return Ok(true);
+            }
+            self.take_byte(x)?;
+        }
+        Ok(false)
+    }
+
+    // A byte more of the line under way. The first that is too many is told at once, since the line may never end; much later reading stops.
+    fn take_byte(&mut self, x: u8) -> Result<(), End> {
+        let _ = self.line.try_push(x);
+        if let Some(left) = self.left.get_mut(self.held) {
+            *left = x;
+        }
+        match self.held {
+            COUNTED => {
+                self.tell_line(Bad::at(COUNTED, Fault::Endless));
+                Err(End::Stopped)
+            }
+            held => {
+                self.held = held.saturating_add(1);
+                if held == KEPT {
+                    self.tell_bad(line::parse_long(self.line()))
+                } else {
+                    Ok(())
+                }
+            }
+        }
+    }
+
+    // One read.
+    fn refill(&mut self) -> Result<(), End> {
+        match self.source.read(&mut self.lump) {
+            Ok(0) => {
+                self.end_last_line();
+                Err(End::Text)
+            }
+            Ok(n) => {
+                self.from = 0;
+                self.to = n;
+                Ok(())
+            }
+            Err(error) => {
+                report::fail_of(self.path, &error);
+                Err(End::Failed)
+            }
+        }
+    }
+
+    // A last line without a line feed may be half a line. A byte in it that may not be seen for what it is goes first.
+    fn end_last_line(&mut self) {
+        if self.held == 0 || KEPT < self.held {
+            return;
+        }
+        let bad = match line::parse(self.line()) {
+            Err(bad) if bad.fault.is_about_byte() => bad,
+            _ => Bad::at(self.held, Fault::LineFeed),
+        };
+        let _ = self.tell_bad(bad);
     }
 }
 
 // From its start once more; says so where a file cannot be.
-pub fn rewind(source: &Source, path: &[u8]) -> bool {
-    if !source.rewind() {
-        output::tell(path, 0x16, 0);
-        return false;
+pub fn rewind(source: &Source, path: &[u8]) -> Result<(), Stop> {
+    if source.rewind() {
+        return Ok(());
     }
-    true
-}
-
-// By file, line and column.
-fn tell_line(path: &[u8], line: u64, column: usize, wrong: u8, found: [u8; 8]) {
-    report::print_name(STDERR, path);
-    sentences::bad_line(wrong, line, column as u64, found)
-        .put(b'\n')
-        .complain();
-}
-
-// The line under way is bad. While it is not whole, the lines that ended are those before it.
-fn tell_bad(path: &[u8], lines: Lines, p: Parsed) -> Lines {
-    let found = p.bytes;
-    let mut number = text::more(lines.line);
-    if lines.whole {
-        number = lines.line;
-    }
-    tell_line(path, number, p.column, p.wrong, found);
-    let mut next = lines;
-    next.bad = text::more(lines.bad);
-    if next.bad < lines.most {
-        return next;
-    }
-    next.stop()
-}
-
-// A byte more of the line under way: only so many are kept, and only so many counted.
-fn hold(line: &mut [u8; 1000], at: usize, x: u8) -> usize {
-    if at < 1000 {
-        line[at] = x;
-        return at + 1;
-    }
-    if at < 101000 {
-        return at + 1;
-    }
-    at
-}
-
-// The first byte that is too many is told at once, since the line may never end; much later reading stops.
-fn take_character(path: &[u8], line: &mut [u8; 1000], lines: Lines, x: u8) -> Lines {
-    let at = lines.held;
-    let mut next = lines;
-    next.held = hold(line, at, x);
-    if at == 1000 {
-        return tell_bad(path, next, line::parse_long(line));
-    }
-    if at < 101000 {
-        return next;
-    }
-    tell_line(
-        path,
-        text::more(lines.line),
-        101001,
-        line::ENDLESS,
-        [0u8; 8],
-    );
-    next.stop()
-}
-
-// What is left of the lump, up to the end of the line.
-fn scan(path: &[u8], line: &mut [u8; 1000], lump: &[u8; 65536], lines: Lines) -> Lines {
-    let mut next = lines;
-    let to = lines.to;
-    let mut i = lines.from;
-    while i < to {
-        let at = i % 65536;
-        let x = lump[at];
-        i += 1;
-        next.from = i;
-        if x == b'\n' {
-            next.whole = true;
-            next.line = text::more(next.line);
-            return next;
-        }
-        next = take_character(path, line, next, x);
-        if !next.more {
-            return next;
-        }
-    }
-    next
-}
-
-// One read.
-fn refill(
-    source: &Source,
-    path: &[u8],
-    line: &[u8; 1000],
-    lump: &mut [u8; 65536],
-    lines: Lines,
-) -> Lines {
-    let mut next = lines;
-    let got = match source.read(lump) {
-        Ok(n) => n,
-        Err(e) => {
-            report::fail_of(path, &e);
-            next.more = false;
-            next.failed = true;
-            return next;
-        }
-    };
-    if got == 0 {
-        next = end_last_line(path, line, lines);
-        next.more = false;
-        next.stopped = false;
-        return next;
-    }
-    next.from = 0;
-    next.to = got;
-    next
-}
-
-// A last line without a line feed may be half a line. A byte in it that may not be seen for what it is goes first.
-fn end_last_line(path: &[u8], line: &[u8; 1000], lines: Lines) -> Lines {
-    let n = lines.held;
-    if n == 0 {
-        return lines;
-    }
-    if 1000 < n {
-        return lines;
-    }
-    let p = line::parse(line, n);
-    if p.kind == Parsed::BAD {
-        if line::is_about_byte(p.wrong) {
-            return tell_bad(path, lines, p);
-        }
-        return tell_bad(path, lines, Parsed::bad(n, line::LINE_FEED, [0u8; 8]));
-    }
-    tell_bad(path, lines, Parsed::bad(n, line::LINE_FEED, [0u8; 8]))
-}
-
-// Reads until a line is whole, or there are no more.
-fn read_line(
-    source: &Source,
-    path: &[u8],
-    line: &mut [u8; 1000],
-    lump: &mut [u8; 65536],
-    lines: Lines,
-) -> Lines {
-    let mut next = lines;
-    next.held = 0;
-    next.whole = false;
-    let mut turns = u64::MAX;
-    while turns > 0 {
-        next = scan(path, line, lump, next);
-        if next.whole {
-            return next;
-        }
-        if !next.more {
-            return next;
-        }
-        next = refill(source, path, line, lump, next);
-        if !next.more {
-            return next;
-        }
-        turns -= 1;
-    }
-    next.stop()
-}
-
-// A whole line: what it comes to where it stands. One that is too long was told already, and comes to nothing.
-fn judge(line: &[u8; 1000], lines: Lines) -> Parsed {
-    if 1000 < lines.held {
-        return Parsed::new(Parsed::EMPTY, 0);
-    }
-    lines.place.judge(line::parse(line, lines.held))
-}
-
-// The next line; a bad one is told.
-fn take_any(
-    source: &Source,
-    path: &[u8],
-    line: &mut [u8; 1000],
-    lump: &mut [u8; 65536],
-    lines: Lines,
-) -> Taken {
-    let mut next = read_line(source, path, line, lump, lines);
-    if !next.more {
-        return nothing(next);
-    }
-    let p = judge(line, next);
-    if p.kind == Parsed::BAD {
-        next = tell_bad(path, next, p);
-        if !next.more {
-            return nothing(next);
-        }
-        // what was meant below it is not bad by itself
-        next.place = next.place.after_bad();
-        return Taken {
-            lines: next,
-            parsed: p,
-        };
-    }
-    next.place = next.place.after(p);
-    Taken {
-        lines: next,
-        parsed: p,
-    }
-}
-
-// The next good line, which may be empty.
-pub fn take(
-    source: &Source,
-    path: &[u8],
-    line: &mut [u8; 1000],
-    lump: &mut [u8; 65536],
-    lines: Lines,
-) -> Taken {
-    let mut next = lines;
-    let mut turns = u64::MAX;
-    while turns > 0 {
-        let t = take_any(source, path, line, lump, next);
-        if t.parsed.kind != Parsed::BAD {
-            return t;
-        }
-        next = t.lines;
-        turns -= 1;
-    }
-    nothing(next.stop())
-}
-
-fn nothing(lines: Lines) -> Taken {
-    Taken {
-        lines: lines,
-        parsed: Parsed::new(Parsed::EMPTY, 0),
-    }
+    output::tell(path, Message::NotTwice);
+    Err(Stop::Text)
 }

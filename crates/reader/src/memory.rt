@@ -1,132 +1,102 @@
-// The memory of a lesson, and the marks of its bytes that were written.
-use notation::line::Parsed;
-use notation::word;
-use sentences::text;
+// The memory of a lesson, and which of its bytes were written.
+use notation::line::MemoryLine;
+use sentences::Message;
 use sentences::text::Text;
 
-// The bytes that are marked as written, in rows of 16; sixteen rows are shown, and the others counted.
-pub fn print(memory: &[u8; 65536], marks: &[u8; 65536]) -> bool {
-    let mut rows: u64 = 0;
-    let mut k: usize = 0;
-    while k < 4096 {
-        if is_unwritten_row(marks, k * 16) {
-            k += 1;
-            continue;
+#[derive(Drop)]
+pub struct Memory {
+    bytes: [u8; 65536],
+    marks: [bool; 65536],
+}
+
+impl Memory {
+    pub fn new() -> Memory {
+        Memory {
+            bytes: [0; 65536],
+            marks: [false; 65536],
         }
-        rows = text::more(rows);
-        if !print_written(memory, marks, k * 16, rows) {
-            return false;
+    }
+
+    pub fn clear(&mut self) {
+        self.bytes.fill(0);
+        self.marks.fill(false);
+    }
+
+    // So many of its bytes, from the first on.
+    pub fn lent(&mut self, length: u32) -> &mut [u8] {
+        &mut self.bytes[..65536.min(length as usize)]
+    }
+
+    // What an address has; they come round.
+    pub fn byte(&self, address: u32) -> u8 {
+        self.bytes[(address % 65536) as usize]
+    }
+
+    // The bytes of a memory line, put where it says.
+    pub fn put(&mut self, line: &[u8], said: &MemoryLine) {
+        for (at, byte) in (said.address..).zip(said.bytes(line)) {
+            self.bytes[(at % 65536) as usize] = byte;
         }
-        k += 1;
     }
-    print_end(rows)
-}
 
-fn print_end(rows: u64) -> bool {
-    if rows == 0 {
-        return sentences::message(0x22, 0, 0).print_line();
-    }
-    if 16 < rows {
-        return sentences::message(0x23, rows - 16, 0).print_line();
-    }
-    true
-}
-
-fn print_written(memory: &[u8; 65536], marks: &[u8; 65536], at: usize, rows: u64) -> bool {
-    if 16 < rows {
-        return true;
-    }
-    if rows == 1 {
-        if sentences::message(0x21, 0, 0).print_line() {
-            return print_row(memory, marks, at);
-        }
-        return false;
-    }
-    print_row(memory, marks, at)
-}
-
-fn is_unwritten_row(marks: &[u8; 65536], at: usize) -> bool {
-    let mut i = 0;
-    while i < 16 {
-        let p = (at % 65536 + i) % 65536;
-        if marks[p] != 0 {
-            return false;
-        }
-        i += 1;
-    }
-    true
-}
-
-fn print_row(memory: &[u8; 65536], marks: &[u8; 65536], at: usize) -> bool {
-    let mut t = Text::new().pad(2).address((at % 65536) as u32).put(b' ');
-    let mut shown = Text::new();
-    let mut i = 0;
-    while i < 16 {
-        let p = (at % 65536 + i) % 65536;
-        let x = memory[p];
-        let mark = marks[p];
-        t = put_written(t, x, mark);
-        shown = put_shown(shown, x, mark);
-        i += 1;
-    }
-    t.put(b' ').put(b' ').part(shown, 0, shown.n).print_line()
-}
-
-fn put_written(t: Text, x: u8, mark: u8) -> Text {
-    if mark == 0 {
-        return t.put(b' ').put(b'-').put(b'-');
-    }
-    t.put(b' ').hex(x)
-}
-
-fn put_shown(t: Text, x: u8, mark: u8) -> Text {
-    if mark == 0 {
-        return t.put(b'.');
-    }
-    if x < 32 {
-        return t.put(b'.');
-    }
-    if 126 < x {
-        return t.put(b'.');
-    }
-    t.put(x)
-}
-
-// The bytes of a memory line, put where it says.
-pub fn put(line: &[u8; 1000], n: usize, p: Parsed, memory: &mut [u8; 65536]) {
-    let mut bytes = word::Bytes::start(p.from);
-    let mut k: u32 = 0;
-    while k < 1000 {
-        bytes = bytes.next(line, n);
-        if !bytes.more {
+    // Marks what a unit of so many bytes was written to: of a word, its address and the other one of that pair. What is past the memory is not marked.
+    pub fn mark(&mut self, address: u32, bytes: u8, lent: u32) {
+        if bytes == 0 {
             return;
         }
-        let i = ((p.number % 65536 + k) % 65536) as usize;
-        memory[i] = bytes.byte;
-        k += 1;
+        self.mark_byte(address, lent);
+        if bytes != 1 {
+            self.mark_byte(address ^ 1, lent);
+        }
+    }
+
+    fn mark_byte(&mut self, address: u32, lent: u32) {
+        if address < lent {
+            self.marks[(address % 65536) as usize] = true;
+        }
+    }
+
+    // The bytes that are marked as written, in rows of 16; sixteen rows are shown, and the others counted.
+    pub fn print(&self) -> bool {
+        let count = self
+            .marks
+            .chunks(16)
+            .filter(|marks| marks.contains(&true))
+            .count();
+        if count == 0 {
+            return Message::NothingWritten.text().print_line();
+        }
+        Message::Written.text().print_line()
+            && self.print_rows()
+            && (count <= 16 || Message::MoreRows(count as u64 - 16).text().print_line())
+    }
+
+    fn print_rows(&self) -> bool {
+        self.bytes
+            .chunks(16)
+            .zip(self.marks.chunks(16))
+            .enumerate()
+            .filter(|(_, (_, marks))| marks.contains(&true))
+            .take(16)
+            .all(|(k, (bytes, marks))| print_row(k, bytes, marks))
     }
 }
 
-pub fn clear(memory: &mut [u8; 65536]) {
-    let mut i = 0;
-    while i < 65536 {
-        memory[i] = 0;
-        i += 1;
+// The row of that number.
+fn print_row(k: usize, bytes: &[u8], marks: &[bool]) -> bool {
+    let mut row = Text::new().pad(2).address((k % 4096 * 16) as u32).put(b' ');
+    let mut shown = Text::new();
+    for (x, mark) in bytes.iter().zip(marks) {
+        row = put_byte(row.put(b' '), *x, *mark);
+        shown = shown.put(if *mark && matches!(*x, 32..=126) {
+            *x
+        } else {
+            b'.'
+        });
     }
+    row.say(b"  ").and(shown).print_line()
 }
 
-// Marks what a unit of so many bytes was written to: of a word, its address and the other one of that pair. What is past the memory is not marked.
-pub fn mark(marks: &mut [u8; 65536], address: u32, bytes: u8, lent: u32) {
-    if bytes == 0 {
-        return;
-    }
-    mark_byte(marks, address, lent);
-    mark_byte(marks, address ^ (bytes / 2) as u32, lent);
-}
-
-fn mark_byte(marks: &mut [u8; 65536], address: u32, lent: u32) {
-    if address < lent {
-        let i = (address % 65536) as usize;
-        marks[i] = 1;
-    }
+fn put_byte(row: Text, x: u8, mark: bool) -> Text {
+    if mark { row.hex(x) } else { row.say(b"--") }
 }

@@ -1,12 +1,24 @@
-// What is said beside the output, and how the program ends where its output fails.
-use report::{STDERR, STDOUT};
+// What is said beside the output, and what ends where something fails.
+use report::{Exit, STDERR, STDOUT};
+use sentences::Message;
+
+// What did not go well, which was told.
+#[derive(Clone, Copy, PartialEq, Eq)]
+pub enum Stop {
+    // A text, or a card: what comes after it is still done.
+    Text,
+    // The arguments, or standard output, which takes no more: the program ends at once.
+    Program(Exit),
+}
 
 // Says something of a file, or of an argument.
-pub fn tell(name: &[u8], sentence: u8, number: u64) {
+pub fn tell(name: &[u8], message: Message) {
     report::print_name(STDERR, name);
-    sentences::message(sentence, number, 0)
-        .put(b'\n')
-        .complain();
+    complain(message);
+}
+
+pub(crate) fn complain(message: Message) {
+    message.text().put(b'\n').complain();
 }
 
 // What stands above the rows of a lesson.
@@ -14,21 +26,10 @@ pub fn print_title(path: &[u8]) -> bool {
     report::print_name(STDOUT, path) && io::write_all(STDOUT, b"\n") && sentences::print_heads()
 }
 
-// Standard output takes no more: the program ends at once. It is told as a failure.
-const STOPPED: u8 = 3;
-
-// What was printed could not be.
-pub fn fail() -> u8 {
-    let status = report::fail_output(b"lesson: standard output");
-    if status == report::CLOSED {
-        return report::CLOSED;
+// Whether it was is what a write to standard output just answered.
+pub fn written(is_written: bool) -> Result<(), Stop> {
+    if is_written {
+        return Ok(());
     }
-    STOPPED
-}
-
-pub fn told(status: u8) -> u8 {
-    if status == STOPPED {
-        return report::FAILED;
-    }
-    status
+    Err(Stop::Program(report::fail_output(b"lesson: standard output")))
 }

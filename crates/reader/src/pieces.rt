@@ -1,28 +1,24 @@
 // What the filters make of a record and of an answer.
 use sentences::bytes::{Answer, Record};
 use sentences::text::Text;
-use sentences::{listing, text, which};
+use sentences::{Asked, Facts, listing, text, which};
 
 // The record's bytes and its line, and below them the answer by itself.
-pub fn print_pieces(number: u64, r: Record, a: Answer) -> bool {
-    let bytes = sentences::asked(0x0c, r.facts());
-    let row = left(number)
+pub fn print_pieces(number: u64, record: Record, answer: Answer) -> bool {
+    left(number)
         .put(b' ')
         .pad(13)
-        .and(bytes)
+        .and(sentences::say(Asked::Bytes, Facts::from(record)))
         .put(b' ')
         .pad(41)
-        .and(line_of(r))
-        .put(b'\n');
-    if row.print() {
-        return print_answer(number, a);
-    }
-    false
+        .and(line_of(record))
+        .print_line()
+        && print_answer(number, answer)
 }
 
 // A record in the notation.
-pub fn line_of(r: Record) -> Text {
-    sentences::asked(listing::sentence(r), r.facts())
+pub fn line_of(record: Record) -> Text {
+    sentences::say(listing::sentence(record), Facts::from(record))
 }
 
 // The number of a record or an answer.
@@ -30,11 +26,11 @@ fn left(number: u64) -> Text {
     Text::new().number(number, 5)
 }
 
-pub fn print_answer(number: u64, a: Answer) -> bool {
+pub fn print_answer(number: u64, answer: Answer) -> bool {
     text::print_row(
         left(number),
-        which::operation(a),
-        which::words_alone(a),
-        a.levels,
+        which::operation(answer),
+        which::words_alone(answer),
+        Some(answer.levels),
     )
 }

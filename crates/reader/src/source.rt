@@ -12,16 +12,17 @@ pub enum Source {
 }
 
 impl Source {
-    pub(crate) fn input(rt: &HostRuntime) -> Source {
+    pub fn input(rt: &HostRuntime) -> Source {
         Source::Input(rt.stdin())
     }
 
     // A file's name is text here.
     pub fn open(rt: &HostRuntime, name: &[u8]) -> io::Result<Source> {
-        match std::str::from_utf8(name) {
-            Ok(path) => Ok(Source::File(File::open(rt, path)?)),
-            Err(_) => Err(io::Error::new(ErrorKind::InvalidInput, "the name is not UTF-8")),
-        }
+        let path = str::from_utf8(name).map_err(|_| io::Error::new(
+            ErrorKind::InvalidInput,
+            "the name is not UTF-8",
+        ))?;
+        File::open(rt, path).map(Source::File)
     }
 
     // One read.

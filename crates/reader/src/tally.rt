@@ -1,8 +1,8 @@
 // What is counted in a lesson, and told at its end.
-use notation::line::Parsed;
-use sentences::{text, which};
+use sentences::Message;
+use sentences::which::Way;
 
-#[derive(Clone, Copy)]
+#[derive(Clone, Copy, Default)]
 pub struct Tally {
     records: u64,
     refused: u64,
@@ -17,96 +17,59 @@ pub struct Tally {
 }
 
 impl Tally {
-    pub fn start() -> Tally {
-        Tally {
-            records: 0,
-            refused: 0,
-            lost: 0,
-            unread: 0,
-            checks: 0,
-            failed: 0,
-            questions: 0,
-        }
+    // A record that nothing was said of was to be done and no more: that it was not is a failure, and no check.
+    pub fn count_record(&mut self, is_refused: bool, is_checked: bool, is_wrong: bool) {
+        add(&mut self.records, 1);
+        add(&mut self.refused, u8::from(is_refused));
+        add(&mut self.checks, u8::from(is_checked));
+        add(&mut self.failed, u8::from(is_wrong));
     }
 
-    // A record: whether it was refused, and whether its check held.
-    pub fn with_record(self, status: u8, check: u8, wrong: bool) -> Tally {
-        let mut next = self;
-        next.records = text::more(self.records);
-        if status != 0 {
-            next.refused = text::more(self.refused);
-        }
-        if check == Parsed::SAID {
-            return next.with_check(wrong);
-        }
-        // nothing was said of the answer, and so it was to be done and no more
-        next.failed = add(self.failed, wrong as u8);
-        next
-    }
-
-    pub fn with_check(self, wrong: bool) -> Tally {
-        let mut next = self;
-        next.checks = text::more(self.checks);
-        next.failed = add(self.failed, wrong as u8);
-        next
+    pub fn count_check(&mut self, is_wrong: bool) {
+        add(&mut self.checks, 1);
+        add(&mut self.failed, u8::from(is_wrong));
     }
 
     // Bytes that went a way, past the end of memory.
-    pub fn with_lost(self, way: u8, bytes: u8) -> Tally {
-        let mut next = self;
+    pub fn count_lost(&mut self, way: Way, bytes: u8) {
         match way {
-            which::TO_MEMORY => {
-                next.lost = add(self.lost, bytes);
-                next
-            }
-            which::FROM_MEMORY => {
-                next.unread = add(self.unread, bytes);
-                next
-            }
-            _ => next,
+            Way::ToMemory => add(&mut self.lost, bytes),
+            Way::FromMemory => add(&mut self.unread, bytes),
+            _ => {}
         }
     }
 
-    pub fn with_question(self) -> Tally {
-        let mut next = self;
-        next.questions = text::more(self.questions);
-        next
+    pub fn count_question(&mut self) {
+        add(&mut self.questions, 1);
     }
 
     // All went well only if every check held, and none was left open.
-    pub fn is_well(self) -> bool {
-        self.failed | self.questions == 0
+    pub fn is_well(&self) -> bool {
+        self.failed == 0 && self.questions == 0
     }
 
-    pub fn print(self) -> bool {
-        sentences::message(0x20, self.records, self.refused).print_line()
-            && self.print_checks()
-            && print_some(0x29, self.questions)
-            && print_some(0x26, self.lost)
-            && print_some(0x27, self.unread)
-    }
-
-    fn print_checks(self) -> bool {
-        if self.checks == 0 {
-            return true;
-        }
-        sentences::message(0x28, self.checks, self.failed).print_line()
+    pub fn print(&self) -> bool {
+        let records = Message::Records {
+            all: self.records,
+            refused: self.refused,
+        };
+        let checks = Message::Checks {
+            all: self.checks,
+            failed: self.failed,
+        };
+        records.text().print_line()
+            && print_some(self.checks, checks)
+            && print_some(self.questions, Message::Questions(self.questions))
+            && print_some(self.lost, Message::Lost(self.lost))
+            && print_some(self.unread, Message::Unread(self.unread))
     }
 }
 
-// Counts up to two.
-fn add(n: u64, more: u8) -> u64 {
-    match more {
-        0 => n,
-        1 => text::more(n),
-        _ => text::more(text::more(n)),
-    }
+fn add(count: &mut u64, more: u8) {
+    *count = count.saturating_add(u64::from(more));
 }
 
 // A count that is told where it is not 0.
-fn print_some(message: u8, n: u64) -> bool {
-    if n == 0 {
-        return true;
-    }
-    sentences::message(message, n, 0).print_line()
+fn print_some(count: u64, message: Message) -> bool {
+    count == 0 || message.text().print_line()
 }

@@ -1,116 +1,86 @@
 // What the arguments of `lesson` may be.
+use crate::course::Meant;
 use crate::output;
-use notation::word;
+use crate::output::Stop;
+use report::Exit;
+use sentences::Message;
 use std::fs;
 
 // What is done with a command's files.
-pub const RUN: u8 = 0;
-
-// its comments are printed too
-pub const LISTING: u8 = 1;
-
-pub const PIECES: u8 = 2;
-
-// its lines are typed
-pub const TRY: u8 = 3;
-
-pub const ASSEMBLE: u8 = 4;
-
-pub const LIST: u8 = 5;
-
-pub const EXPLAIN: u8 = 6;
-
-pub const CARD: u8 = 7;
-
-// What an argument is where it is no command's word.
-pub const FILE: u8 = 8;
-
-// Commands that take one file, or none.
-pub fn takes_one(mode: u8) -> bool {
-    PIECES < mode
+#[derive(Clone, Copy, PartialEq, Eq)]
+pub enum Mode {
+    Run,
+    // its comments are printed too
+    Listing,
+    Pieces,
+    // its lines are typed
+    Try,
+    Assemble,
+    List,
+    Explain,
+    Card,
 }
 
-// The words are in the order of what they stand for, but for RUN, which has none.
-pub fn command(word: &[u8]) -> u8 {
-    word::which(
-        b"\n listing pieces try assemble list explain card ",
-        word,
-        0,
-        word.len(),
-    )
+impl Mode {
+    // The command that a word starts. Any other argument is a file.
+    pub fn of(word: &[u8]) -> Option<Mode> {
+        match word {
+            b"\n" => Some(Mode::Run),
+            b"listing" => Some(Mode::Listing),
+            b"pieces" => Some(Mode::Pieces),
+            b"try" => Some(Mode::Try),
+            b"assemble" => Some(Mode::Assemble),
+            b"list" => Some(Mode::List),
+            b"explain" => Some(Mode::Explain),
+            b"card" => Some(Mode::Card),
+            _ => None,
+        }
+    }
+
+    // Whether it takes one file, or none.
+    pub fn takes_one(self) -> bool {
+        !matches!(self, Mode::Run | Mode::Listing | Mode::Pieces)
+    }
+}
+
+// Whether an argument may be given so; says why not.
+pub fn check(rt: &HostRuntime, meant: Meant, name: &[u8]) -> Result<(), Stop> {
+    match meant {
+        Meant::File { mode, is_first } => check_file(rt, mode, is_first, name),
+        Meant::NoFile(Mode::Listing | Mode::Pieces) => Err(wrong(b"lesson", Message::NoFile)),
+        _ => Ok(()),
+    }
+}
+
+// Whether an argument can be a file of the command under way. Whoever asks for help gets the usage alone.
+fn check_file(rt: &HostRuntime, mode: Mode, is_first: bool, name: &[u8]) -> Result<(), Stop> {
+    match name {
+        [] => Err(wrong(b"lesson", Message::EmptyArgument)),
+        b"--help" | b"-h" => Err(Stop::Program(Exit::Usage)),
+        [b'-', ..] => Err(wrong(name, Message::NoOptions)),
+        _ => {
+            if mode != Mode::Card && is_mistyped(rt, name) {
+                return Err(wrong(name, Message::NoSuchWord));
+            }
+            if !is_first && mode.takes_one() {
+                return Err(wrong(name, Message::OneFileTooMany));
+            }
+            Ok(())
+        }
+    }
 }
 
 // Wrong usage, by the sentence that follows a name.
-fn tell_wrong(name: &[u8], sentence: u8) -> u8 {
-    output::tell(name, sentence, 0);
-    report::USAGE
+fn wrong(name: &[u8], message: Message) -> Stop {
+    output::tell(name, message);
+    Stop::Program(Exit::Usage)
 }
 
-pub fn check_no_file(mode: u8) -> u8 {
-    match mode {
-        LISTING => tell_wrong(b"lesson", 0x1d),
-        PIECES => tell_wrong(b"lesson", 0x1d),
-        _ => report::WELL,
-    }
-}
-
-// Whether an argument can be a file of the command under way.
-pub fn check_file(rt: &HostRuntime, mode: u8, had_file: bool, name: &[u8]) -> u8 {
-    if name.len() == 0 {
-        return tell_wrong(b"lesson", 0x1c);
-    }
-    if name[0] == b'-' {
-        return check_option(name);
-    }
-    if mode != CARD {
-        if is_mistyped(rt, name) {
-            return tell_wrong(name, 0x19);
-        }
-    }
-    if had_file {
-        if takes_one(mode) {
-            return tell_wrong(name, 0x1b);
-        }
-        return report::WELL;
-    }
-    report::WELL
-}
-
-// Whoever asks for help gets the usage alone.
-fn check_option(name: &[u8]) -> u8 {
-    if word::which(b"--help -h ", name, 0, name.len()) < 2 {
-        return report::USAGE;
-    }
-    tell_wrong(name, 0x1a)
-}
-
-// Letters alone, and no file that is there.
+// Letters alone, and no file that is there. A path has at most 4,095 characters.
 fn is_mistyped(rt: &HostRuntime, name: &[u8]) -> bool {
-    let mut i = 0;
-    while i < name.len() {
-        if 4094 < i {
-            return false;
-        }
-        let x = name[i];
-        if !is_letter(x) {
-            return false;
-        }
-        i += 1;
-    }
-    !is_there(rt, name)
+    name.len() < 4096 && name.iter().all(|x| x.is_ascii_alphabetic()) && !is_there(rt, name)
 }
 
 fn is_there(rt: &HostRuntime, name: &[u8]) -> bool {
-    if let Ok(path) = std::str::from_utf8(name) {
-        if let Ok(found) = fs::exists(rt, path) {
-            return found;
-        }
-    }
-    false
-}
-
-// ASCII has its letters in the rows of 32 from 40 and from 60 on, in the places 1 to 26.
-fn is_letter(x: u8) -> bool {
-    let place = x % 32;
-    (63 < x) & (x < 128) & (0 < place) & (place < 27)
+    str::from_utf8(name).is_ok_and(|path| fs::exists(rt, path).unwrap_or(false))
 }

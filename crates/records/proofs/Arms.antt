@@ -8,11 +8,10 @@ use borrow.Author.Tests.{eq-eqb, ne_eqb, eqb-true, eqb-false}
 use lib.Dec.{eqb}
 use lib.ListN.{set}
 use Rattle.bits.specs.Choice.{◌and◌}
-use Rattle.std.specs.Prelude.{if◌then◌else◌}
+use Rattle.std.specs.Prelude.{if◌then◌else◌, Some, None, Result, Ok, Err}
 use Rattle.tape.specs.Answers.{answer_of, little_of, twelve}
 use Rattle.tape.specs.declared.Operation.{Operation}
 use Rattle.tape.specs.declared.Operation.TheVariants.{Reset, Write, Read, Intp, Gates, Requests, SlaveIntp, Acknowledge, Advance, Cycle}
-use Rattle.tape.specs.declared.Decoded.TheVariants.{Asked, Malformed}
 use Rattle.tape.specs.Records.{byte, decode_of, uses_bus}
 use Rattle.icu.specs.declared.Icu.{Icu}
 use Rattle.icu.specs.Answers as IcuAnswers
@@ -21,15 +20,19 @@ use Rattle.icu.specs.Service as IcuService
 use Rattle.icu.specs.Requests.{irr_of, int_of, lines_of}
 use Rattle.cascade.specs.Cascade.{master_iw3, slave_iw3, joined_of, answered, passed_on}
 use Rattle.timer.specs.declared.Timer.{Timer}
-use Rattle.timer.specs.declared.Written as TimerWritten
-use Rattle.timer.specs.declared.Seen as TimerSeen
-use Rattle.timer.specs.Ports.{seen_of}
+use Rattle.timer.specs.declared.Shown as TimerShown
+use Rattle.timer.specs.declared.Refusal as TimerRefusal
+use Rattle.timer.specs.Fields.{latched_is, second_is}
+use Rattle.timer.specs.Ports.{Seen, seen_of, told_seen}
+use Rattle.timer.specs.Ports as TimerPorts
+use Rattle.timer.specs.Timer as Timers
 use Rattle.timer.specs.Timer.{at, counter_is, resets_of, outs_of, writes_of, gates_of}
-use Rattle.timer.proofs.Looks.{back, got_seen, none_changed, none_shown, same_out}
+use Rattle.timer.proofs.Looks.{back, got_seen, same_out}
 use Rattle.dma.specs.declared.Dma.{Dma}
-use Rattle.dma.specs.declared.Written as DmaWritten
-use Rattle.dma.specs.declared.Got.{Got}
-use Rattle.dma.specs.declared.Seen as DmaSeen
+use Rattle.dma.specs.declared.Shown as DmaShown
+use Rattle.dma.specs.declared.Refusal as DmaRefusal
+use Rattle.dma.specs.Answers as DmaAnswers
+use Rattle.dma.proofs.Refusals as DmaRefusals
 use Rattle.dma.specs.Registers as DmaRegisters
 use Rattle.dma.specs.declared.Channel.{Channel}
 use Rattle.dma.specs.declared.Carried.{Carried}
@@ -48,6 +51,7 @@ use Rattle.board.specs.declared.Run.{Run}
 use Rattle.board.specs.Wiring.{icu_is, intp_is, slave_is, timer_is, dma_is, joined, lines, lines_at, levels_of, levels_at, reset_of, followed, wired_to}
 use Rattle.board.specs.Operations.{Outcome, done, telling, refused, icu_told, turn_of, a0, icu_written, icu_shown, slave_written, slave_shown, acknowledged, slave_gives, acknowledge_of, timer_written, timer_shown, dma_written, dma_shown, write_of, read_of, flag_of, payload_of, cycle_of, cycle_memory}
 use Rattle.board.specs.Advance.{advanced_of, rises_payload, advance_of}
+use Rattle.board.proofs.Refusals.{never_0}
 use Rattle.records.proofs.Runs.{Turned}
 use Rattle.board.specs.Step.{execute_of, memory_after, blocked, outcome_of, memory_of, answered_of, step_of, step_memory}
 
@@ -64,27 +68,16 @@ read_leaves c k x = by (IcuWords.ready c) k c.showsisr
     by true false false = refl
     by false q s = refl
 
-module _ (b : Board) where
-  -- what a chip shows is told, or refused by number with nothing shown and nothing changed
-  shown_as : (s : ℕ) (b' : Board) (x : ℕ) (q : Bool) → eqb s 0 ≡ q
-      → (eqb s 0 ≡ false → (b' ≡ b) × (x ≡ 0))
-      → (if q then telling b' x else refused s b) ≡ record { status = s; board = b'; byte = x; payload = twelve [] }
-  shown_as s b' x true e h = ap (λ (n : ℕ). record { status = n; board = b'; byte = x; payload = twelve [] }) (sym (eqb-true s 0 e))
-  shown_as s b' x false e h =
-      let k = h e in
-      ap (λ (z : Board). record { status = s; board = z; byte = 0; payload = twelve [] }) (sym k.0)
-      ∙ ap (λ (z : ℕ). record { status = s; board = b'; byte = z; payload = twelve [] }) (sym k.1)
-
 module _ (b : Board) (r m : List ℕ) (j : ℕ) (ej : j ≡ joined b) (l : ℕ) (el : l ≡ levels_of b) where
   -- an answer with no data, and none but its status
   abbrev plainly : ℕ → ℕ → List ℕ
   plainly s n = answer_of s (byte r 0) 0 n (twelve [])
 
-  pub malformed : decode_of r ≡ Malformed → Turned b r m b m j l (plainly 2 l)
+  pub malformed : decode_of r ≡ None → Turned b r m b m j l (plainly 2 l)
   unfolding step_of step_memory answered_of outcome_of memory_of
   malformed e = rw (e, ej, el) (refl, refl, refl, refl, refl)
 
-  module _ (o : Operation) (e : decode_of r ≡ Asked o) where
+  module _ (o : Operation) (e : decode_of r ≡ Some o) where
     pub held_up : (b.dma.serving and uses_bus o) ≡ true → Turned b r m b m j l (plainly 1 l)
     unfolding step_of step_memory answered_of outcome_of memory_of blocked
     held_up h = rw (e, h, ej, el) (refl, refl, refl, refl, refl)
@@ -166,35 +159,34 @@ module _ (b : Board) (r m : List ℕ) (j : ℕ) (ej : j ≡ joined b) (l : ℕ) 
         pub wrote_nothing : (s : ℕ) → write_of b p x ≡ refused s b → Turned b r m b m j l (plainly s l)
         wrote_nothing s e = carried (refused s b) m j l (wrote ∙ e) wrote_none ej el
 
-        module _ (q₀ : p / 16 ≡ 0 → ⊥) (q₁ : p / 16 ≡ 1) (w : TimerWritten.Written) (ew : w ≡ writes_of b.timer p x) where
+        module _ (q : p / 16 ≡ 1) (t : Result Timer TimerRefusal.Refusal) (et : Timers.written_as b.timer t ≡ writes_of b.timer p x) where
           to_timer : write_of b p x ≡ timer_written b p x
           unfolding write_of
-          to_timer = rw (ne_eqb _ _ q₀, eq-eqb _ _ q₁)
+          to_timer = rw q
 
-          pub wrote_timer : w.status ≡ 0
-              → (d : Wired) → d ≡ wired_to b.icu (lines_at j b.timer) j w.timer
-              → Turned b r m (icu_is d.icu (timer_is w.timer b)) m j d.levels (plainly 0 d.levels)
+          pub wrote_timer : (after : Timer) → t ≡ Ok after
+              → (d : Wired) → d ≡ wired_to b.icu (lines_at j b.timer) j after
+              → Turned b r m (icu_is d.icu (timer_is after b)) m j d.levels (plainly 0 d.levels)
           unfolding timer_written
-          wrote_timer z d ed =
-              follows 0 0 (twelve []) (timer_is w.timer b) j ej (wrote ∙ to_timer ∙ rw (← ew, eq-eqb _ _ z)) wrote_none d ed
+          wrote_timer after v d ed =
+              follows 0 0 (twelve []) (timer_is after b) j ej (wrote ∙ to_timer ∙ rw (← et, v)) wrote_none d ed
 
-          pub refused_timer : (w.status ≡ 0 → ⊥) → Turned b r m b m j l (plainly w.status l)
+          pub refused_timer : (e : TimerRefusal.Refusal) → t ≡ Err e → (s : ℕ) → s ≡ TimerPorts.status_of e → Turned b r m b m j l (plainly s l)
           unfolding timer_written
-          refused_timer z = wrote_nothing w.status (to_timer ∙ rw (← ew, ne_eqb _ _ z))
+          refused_timer e v s es = rw es (wrote_nothing (TimerPorts.status_of e) (to_timer ∙ rw (← et, v, never_0 e)))
 
-        module _ (q₀ : p / 16 ≡ 0 → ⊥) (q₁ : p / 16 ≡ 1 → ⊥) (q₂ : p / 16 ≡ 2) (w : DmaWritten.Written) (ew : w ≡ DmaRegisters.write_of b.dma p x) where
+        module _ (q : p / 16 ≡ 2) (t : Result Dma DmaRefusal.Refusal) (et : DmaAnswers.written_as b.dma t ≡ DmaRegisters.write_of b.dma p x) where
           to_dma : write_of b p x ≡ dma_written b p x
           unfolding write_of
-          to_dma = rw (ne_eqb _ _ q₀, ne_eqb _ _ q₁, eq-eqb _ _ q₂)
+          to_dma = rw q
 
-          pub wrote_dma : w.status ≡ 0 → Turned b r m (dma_is w.dma b) m j l (plainly 0 l)
+          pub wrote_dma : (after : Dma) → t ≡ Ok after → Turned b r m (dma_is after b) m j l (plainly 0 l)
           unfolding dma_written levels_of
-          wrote_dma z =
-              carried (done (dma_is w.dma b)) m j l (wrote ∙ to_dma ∙ rw (← ew, eq-eqb _ _ z)) wrote_none ej el
+          wrote_dma after v = carried (done (dma_is after b)) m j l (wrote ∙ to_dma ∙ rw (← et, v)) wrote_none ej el
 
-          pub refused_dma : (w.status ≡ 0 → ⊥) → Turned b r m b m j l (plainly w.status l)
+          pub refused_dma : (e : DmaRefusal.Refusal) → t ≡ Err e → (s : ℕ) → s ≡ DmaAnswers.status_of e → Turned b r m b m j l (plainly s l)
           unfolding dma_written
-          refused_dma z = wrote_nothing w.status (to_dma ∙ rw (← ew, ne_eqb _ _ z))
+          refused_dma e v s es = rw es (wrote_nothing (DmaAnswers.status_of e) (to_dma ∙ rw (← et, v, DmaRefusals.never_0 e)))
 
         module _ (q₀ : p / 16 ≡ 0 → ⊥) (q₁ : p / 16 ≡ 1 → ⊥) (q₂ : p / 16 ≡ 2 → ⊥) (w : Turn) (ew : w ≡ turn_of (IcuWords.write_of b.slave slave_iw3 (a0 p) x)) where
           to_slave : write_of b p x ≡ slave_written b (a0 p) x
@@ -245,28 +237,30 @@ module _ (b : Board) (r m : List ℕ) (j : ℕ) (ej : j ≡ joined b) (l : ℕ) 
             ej
             el
 
-        same_levels : (n : ℕ) (s : TimerSeen.Seen)
+        same_levels : (n : ℕ) (s : Seen)
             → levels_of b ≡ levels_of (timer_is (counter_is n (back (at b.timer n) s).counter b.timer) b)
         unfolding levels_of lines_at outs_of
         same_levels n s = rw (same_out b.timer n s 0, same_out b.timer n s 1, same_out b.timer n s 2)
 
-        pub read_timer : (q₀ : p / 16 ≡ 0 → ⊥) (q₁ : p / 16 ≡ 1) (q₃ : eqb (p % 4) 3 ≡ false)
-            → (n : ℕ) → n ≡ p % 4 % 3
-            → (s : TimerSeen.Seen) → s ≡ seen_of (at b.timer n)
-            → Turned b r m (timer_is (counter_is n (back (at b.timer n) s).counter b.timer) b) m j l (answer_of s.status (byte r 0) s.byte l (twelve []))
-        unfolding read_of timer_shown
-        read_timer q₀ q₁ q₃ n is s es =
-            let low = eqb-false (p % 4) 3 q₃ in
-            let en : n ≡ p % 4 = omega (arith, is, low) in
-            let t' = counter_is n (back (at b.timer n) s).counter b.timer in
-            carried (record { status = s.status; board = timer_is t' b; byte = s.byte; payload = twelve [] }) m j l
-            (looked
-            ∙ rw (ne_eqb _ _ q₀, eq-eqb _ _ q₁, got_seen b.timer p n en q₃ s es)
-            (shown_as b s.status (timer_is t' b) s.byte (eqb s.status 0) refl
-            (λ z. (ap (λ (k : Timer). timer_is k b) (none_changed b.timer p n en q₃ s es z), none_shown b.timer p n en q₃ s es z))))
-            looked_none
-            ej
-            (el ∙ same_levels n s)
+        module _ (q : p / 16 ≡ 1) (q₃ : eqb (p % 4) 3 ≡ false) (n : ℕ) (is : n ≡ p % 4 % 3) (t : Result TimerShown.Shown TimerRefusal.Refusal) (et : told_seen (at b.timer n) t ≡ seen_of (at b.timer n)) where
+          en : n ≡ p % 4
+          en = let low = eqb-false (p % 4) 3 q₃ in omega (arith, is, low)
+
+          pub read_timer : (s : TimerShown.Shown) → t ≡ Ok s
+              → Turned b r m (timer_is (counter_is n (second_is s.second (latched_is s.latched (at b.timer n))) b.timer) b) m j l (answer_of 0 (byte r 0) s.byte l (twelve []))
+          unfolding read_of timer_shown
+          read_timer s v =
+              let z : Seen = told_seen (at b.timer n) (Ok s) in
+              let ez : z ≡ seen_of (at b.timer n) = rw v at et in
+              let t' = counter_is n (back (at b.timer n) z).counter b.timer in
+              carried (telling (timer_is t' b) s.byte) m j l (looked ∙ rw (q, got_seen b.timer p n en q₃ z ez)) looked_none ej (el ∙ same_levels n z)
+
+          pub unread_timer : (e : TimerRefusal.Refusal) → t ≡ Err e → (s : ℕ) → s ≡ TimerPorts.status_of e → Turned b r m b m j l (plainly s l)
+          unfolding read_of timer_shown
+          unread_timer e v s es =
+              let z : Seen = told_seen (at b.timer n) (Err e) in
+              let ez : z ≡ seen_of (at b.timer n) = rw v at et in
+              rw es (carried (refused (TimerPorts.status_of e) b) m j l (looked ∙ rw (q, got_seen b.timer p n en q₃ z ez, never_0 e)) looked_none ej el)
 
         pub read_slave : (q₀ : p / 16 ≡ 0 → ⊥) (q₁ : p / 16 ≡ 1 → ⊥) (q₂ : p / 16 ≡ 2 → ⊥)
             → (w : Turn) → w ≡ turn_of (IcuService.read_of b.slave (a0 p) b.slaveintp)
@@ -279,24 +273,21 @@ module _ (b : Board) (r m : List ℕ) (j : ℕ) (ej : j ≡ joined b) (l : ℕ) 
             (ap (λ (z : Turn). record { status = z.status; board = b; byte = z.byte; payload = z.payload }) (sym ew)))
             looked_none ej el
 
-        pub read_dma : (q₀ : p / 16 ≡ 0 → ⊥) (q₁ : p / 16 ≡ 1 → ⊥) (q₂ : p / 16 ≡ 2)
-            → (s : DmaSeen.Seen) → s ≡ DmaRegisters.seen_of b.dma p
-            → Turned b r m (dma_is (DmaLooks.back b.dma s).dma b) m j l (answer_of s.status (byte r 0) s.byte l (twelve []))
-        unfolding read_of dma_shown levels_of
-        read_dma q₀ q₁ q₂ s es =
-            let d = b.dma in
-            let g = DmaRegisters.read_of d p in
-            let e = DmaLooks.put_back d p s es in
-            carried (record { status = s.status; board = dma_is (DmaLooks.back d s).dma b; byte = s.byte; payload = twelve [] }) m j l
-            (looked
-            ∙ rw (ne_eqb _ _ q₀, ne_eqb _ _ q₁, eq-eqb _ _ q₂, ← e)
-            (shown_as b s.status (dma_is (DmaLooks.back d s).dma b) s.byte (eqb s.status 0) refl
-            (λ z.
-            let u = e ∙ DmaLooks.unread_leaves d p (ap (λ (k : Got). eqb k.status 0) (sym e) ∙ z) in
-            (ap (λ (k : Got). dma_is k.dma b) u, ap (λ (k : Got). k.byte) u))))
-            looked_none
-            ej
-            el
+        module _ (q : p / 16 ≡ 2) (t : Result DmaShown.Shown DmaRefusal.Refusal) (et : DmaAnswers.shown_as b.dma t ≡ DmaRegisters.seen_of b.dma p) where
+          pub read_dma : (s : DmaShown.Shown) → t ≡ Ok s
+              → Turned b r m (dma_is (DmaLooks.back b.dma (DmaAnswers.shown_as b.dma (Ok s))).dma b) m j l (answer_of 0 (byte r 0) s.byte l (twelve []))
+          unfolding read_of dma_shown levels_of
+          read_dma s v =
+              let z : DmaAnswers.Seen = DmaAnswers.shown_as b.dma (Ok s) in
+              let ez : z ≡ DmaRegisters.seen_of b.dma p = rw v at et in
+              carried (telling (dma_is (DmaLooks.back b.dma z).dma b) s.byte) m j l (looked ∙ rw (q, ← DmaLooks.put_back b.dma p z ez)) looked_none ej el
+
+          pub unread_dma : (e : DmaRefusal.Refusal) → t ≡ Err e → (s : ℕ) → s ≡ DmaAnswers.status_of e → Turned b r m b m j l (plainly s l)
+          unfolding read_of dma_shown
+          unread_dma e v s es =
+              let z : DmaAnswers.Seen = DmaAnswers.shown_as b.dma (Err e) in
+              let ez : z ≡ DmaRegisters.seen_of b.dma p = rw v at et in
+              rw es (carried (refused (DmaAnswers.status_of e) b) m j l (looked ∙ rw (q, ← DmaLooks.put_back b.dma p z ez, DmaRefusals.never_0 e)) looked_none ej el)
 
       -- other lines, or other gates: the interrupt chip sees what changed
       pub intp : (x : ℕ) → o ≡ Intp x → (k : ℕ) → k ≡ joined_of x b.slave b.slaveintp

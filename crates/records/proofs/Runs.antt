@@ -1,11 +1,15 @@
 -- Laws of a run of records, which the loop's proof cites.
 use mathlib.Core.Path.{◌≡◌, refl, ap, ◌∙◌}
+use mathlib.Core.Bool.{Bool, true, false}
 use mathlib.Core.List.{List, ◌++◌}
-use Prim.Native.Nat.{ℕ, zero, suc, ◌+◌, ◌*◌}
+use Prim.Native.Nat.{ℕ, zero, suc, ◌+◌, ◌*◌, min}
 use native.Mathlib.Numerals.{add-one}
 use native.Mathlib.Omega.{arith}
+use borrow.Author.Tests.{ltb-true, ltb-false}
+use lib.Dec.{ltb}
 use lib.ListN.{length, drop, length-append}
 use lib.Seq.{paste}
+use Rattle.std.specs.Prelude.{if◌then◌else◌}
 use Rattle.tape.specs.Answers.{answer_of}
 use Rattle.board.specs.declared.Board.{Board}
 use Rattle.board.specs.declared.Stepped.{Stepped}
@@ -13,6 +17,14 @@ use Rattle.board.specs.Wiring.{joined, levels_of}
 use Rattle.board.specs.Step.{step_of, step_memory, answered_of}
 use Rattle.board.specs.Records.{after, next, record_at}
 use Rattle.records.proofs.Lists.{put_next}
+
+-- the lesser of two numbers, in the words of the definitions
+pub least : (a b : ℕ) → min a b ≡ (if ltb b a then b else a)
+least a b = by_test (ltb b a) refl
+  where
+    by_test : (q : Bool) → ltb b a ≡ q → min a b ≡ (if q then b else a)
+    by_test true e = let h = ltb-true b a e in omega arith
+    by_test false e = let h = ltb-false b a e in omega arith
 
 -- every answer is sixteen bytes
 pub sixteen : (b : Board) (r m : List ℕ) → length (step_of b r m).answer ≡ 16

@@ -1,53 +1,42 @@
--- A record as one number, and each byte back.
-use mathlib.Core.Path.{◌≡◌, ap, ◌∙◌}
-use mathlib.Core.List.{List, [], ◌∷◌, ◌++◌}
-use Prim.Native.Nat.{ℕ, ◌+◌, ◌*◌, ◌/◌, ◌%◌, ◌-◌, ◌<◌, ◌≤◌}
+-- A record's bytes, one by one.
+use mathlib.Core.Path.{◌≡◌, refl, sym, ap, ◌∙◌}
+use mathlib.Core.List.{List, ◌++◌}
+use Prim.Native.Nat.{ℕ, zero, suc, ◌+◌, ◌*◌, ◌-◌, ◌<◌, ◌≤◌}
 use native.Mathlib.Omega.{arith}
-use lib.ListN.{length, take, get_or}
+use lib.ListN.{length, take, drop, get_or}
+use lib.Seq.{get_or-take, get_or-drop}
+use Rattle.std.proofs.lemmas.List.{same_lists, get_or_default}
 use Rattle.tape.specs.Records.{held_of}
 use Rattle.tape.proofs.Kept.{from_tape}
-use Rattle.board.specs.Records.{record_at, eight_from, digits_of}
+use Rattle.board.specs.Records.{record_at}
 
-module _ (a b c d e f g h : ℕ) (ha : a < 256) (hb : b < 256) (hc : c < 256) (hd : d < 256) (he : e < 256) (hf : f < 256) (hg : g < 256) (hh : h < 256) where
-  abbrev w : ℕ
-  w = a + b * 256 + c * 65536 + d * 16777216 + e * 4294967296 + f * 1099511627776 + g * 281474976710656 + h * 72057594037927936
+nth : (s : List ℕ) (i k d : ℕ) → k < 8 → get_or (record_at s i) k d ≡ get_or s (8 * i + k) 0
+unfolding record_at
+nth s i zero d h = ap (λ (j : ℕ). get_or s j 0) (omega arith)
+nth s i (suc zero) d h = refl
+nth s i (suc (suc zero)) d h = refl
+nth s i (suc (suc (suc zero))) d h = refl
+nth s i (suc (suc (suc (suc zero)))) d h = refl
+nth s i (suc (suc (suc (suc (suc zero))))) d h = refl
+nth s i (suc (suc (suc (suc (suc (suc zero)))))) d h = refl
+nth s i (suc (suc (suc (suc (suc (suc (suc zero))))))) d h = refl
+nth s i (suc (suc (suc (suc (suc (suc (suc (suc k)))))))) d h = absurd (omega (arith, h))
 
-  at0 : w % 256 ≡ a
-  at0 = omega (arith, ha)
+eight : (s : List ℕ) (i : ℕ) → length (record_at s i) ≡ 8
+unfolding record_at
+eight s i = refl
 
-  at1 : w / 256 % 256 ≡ b
-  at1 = omega (arith, ha, hb)
-
-  at2 : w / 65536 % 256 ≡ c
-  at2 = omega (arith, ha, hb, hc)
-
-  at3 : w / 16777216 % 256 ≡ d
-  at3 = omega (arith, ha, hb, hc, hd)
-
-  at4 : w / 4294967296 % 256 ≡ e
-  at4 = omega (arith, ha, hb, hc, hd, he)
-
-  at5 : w / 1099511627776 % 256 ≡ f
-  at5 = omega (arith, ha, hb, hc, hd, he, hf)
-
-  at6 : w / 281474976710656 % 256 ≡ g
-  at6 = omega (arith, ha, hb, hc, hd, he, hf, hg)
-
-  at7 : w / 72057594037927936 % 256 ≡ h
-  at7 = omega (arith, ha, hb, hc, hd, he, hf, hg, hh)
-
-  pub digits : digits_of w ≡ a ∷ b ∷ c ∷ d ∷ e ∷ f ∷ g ∷ h ∷ []
-  unfolding digits_of
-  digits = rw (at0, at1, at2, at3, at4, at5, at6, at7)
+-- eight bytes, each the record's
+pub same : (s xs : List ℕ) (i : ℕ) → length xs ≡ 8 → ((k d : ℕ) → k < 8 → get_or xs k d ≡ get_or s (8 * i + k) 0) → xs ≡ record_at s i
+same s xs i long each =
+    same_lists xs (record_at s i) (long ∙ sym (eight s i)) (λ k d h. each k d (omega arith) ∙ sym (nth s i k d (omega arith)))
 
 -- Where no byte of record i was kept, it is eight bytes of the tape.
-module _ (kept tape : List ℕ) (n h i : ℕ) (seven : length kept ≡ 7) (is : h ≡ held_of n) (past : h ≤ 8 * i) where
-  one : (j : ℕ) → get_or tape (8 * i - h + j) 0 ≡ get_or (take n kept ++ tape) (8 * i + j) 0
-  one j =
-      let q : 8 * i - h + j ≡ 8 * i + j - h = omega (arith, past) in
-      ap (λ (k : ℕ). get_or tape k 0) q ∙ from_tape kept n seven h is tape (8 * i + j) (omega (arith, past))
-
-  pub shifted : eight_from tape (8 * i - h) ≡ record_at (take n kept ++ tape) i
-  unfolding record_at eight_from
-  shifted =
-      rw (from_tape kept n seven h is tape (8 * i) past, one 1, one 2, one 3, one 4, one 5, one 6, one 7)
+pub shifted : (kept tape : List ℕ) (n h i k d m : ℕ) → m ≡ 8 → length kept ≡ 7 → h ≡ held_of n → h ≤ 8 * i → 8 * i - h + 8 ≤ length tape → k < 8
+    → get_or (take m (drop (8 * i - h) tape)) k d ≡ get_or (take n kept ++ tape) (8 * i + k) 0
+shifted kept tape n h i k d m e seven is past long l =
+    get_or-take m (drop (8 * i - h) tape) k d (omega arith)
+    ∙ get_or-drop (8 * i - h) tape k d
+    ∙ get_or_default tape (8 * i - h + k) d 0 (omega arith)
+    ∙ ap (λ (j : ℕ). get_or tape j 0) (omega arith)
+    ∙ from_tape kept n seven h is tape (8 * i + k) (omega arith)

@@ -3,9 +3,10 @@
 
 ghost use Rattle.std.specs.Prelude.{max, ◌≡◌, ◌≤◌};
 ghost use Rattle.std.specs.Io.{ReadsAtMost};
+ghost use Rattle.std.specs.Ordering.{ord_max};
 
+use arrayvec::{ArrayString, ArrayVec};
 use std::env::FillError;
-use std::fmt;
 use std::fmt::Write;
 use std::io::{Error, ErrorKind};
 use std::rt::Env;
@@ -18,43 +19,49 @@ pub const STDOUT: i32 = 1;
 
 pub const STDERR: i32 = 2;
 
-// How a program ended, as `run` passes it on.
-pub const WELL: u8 = 0;
+// How a program ended, the better before the worse.
+#[derive(Clone, Copy, Debug, PartialEq, Eq, PartialOrd, Ord)]
+pub enum Exit {
+    Well = 0,
+    Failed = 1,
+    // It was called the wrong way.
+    Usage = 2,
+    // Nobody reads the output any more: what a shell says of a program that this ended.
+    Closed = 141,
+}
 
-pub const FAILED: u8 = 1;
-
-pub const USAGE: u8 = 2;
-
-// Nobody reads the output any more: what a shell says of a program that this ended.
-pub const CLOSED: u8 = 141;
+// The number that `run` passes on.
+impl From<Exit> for u8 {
+    fn from(exit: Exit) -> u8 {
+        exit as u8
+    }
+}
 
 // A program writes the number to this descriptor, which `run` holds open and reads, and ends with; where it is not open, nobody hears it.
 const TOLD: i32 = 9;
 
 // The last thing that a program does.
-pub fn end(status: u8) {
-    io::print_decimal(TOLD, status as u64);
+pub fn end<S: Into<u8>>(status: S) {
+    let number: u8 = status.into();
+    io::print_decimal(TOLD, u64::from(number));
     io::write_all(TOLD, b"\n");
 }
 
 // Of two ends the one that is told.
-pub fn worse(a: u8, b: u8) -> u8
-    ensures { result ≡ max a b }
+pub fn worse<S: Ord + Drop>(a: S, b: S) -> S
+    ensures { result ≡ ord_max S.cmp a b }
 {
-    if a < b {
-        return b;
-    }
-    a
+    a.max(b)
 }
 
 // What was written could not be: says so, or nothing where nobody reads it, and answers how the program ends.
-pub fn fail_output(what: &[u8]) -> u8 {
+pub fn fail_output(what: &[u8]) -> Exit {
     let error = last_error();
     if error.kind() == ErrorKind::BrokenPipe {
-        return CLOSED;
+        return Exit::Closed;
     }
     fail_with(what, &error);
-    FAILED
+    Exit::Failed
 }
 
 // Says of a file what errno says.
@@ -64,63 +71,25 @@ pub fn fail(name: &[u8]) {
 
 // Says of a file why a call on it failed.
 pub fn fail_of(name: &[u8], error: &Error) {
-    let mut shown = [0u8; 16384];
-    let n = show(name, &mut shown);
-    fail_shown(&shown, n, error);
+    fail_with(shown(name).as_slice(), error);
 }
 
 // A line on standard error: what failed, as the caller names it, a colon and the error's text.
 pub fn fail_with(what: &[u8], error: &Error) {
-    let mut said = Said {
-        text: [0; 320],
-        length: 0,
-    };
+    let mut said = ArrayString::<320>::new();
     let _ = write!(said, "{error}");
-    let n = said.plain_length(error.raw_os_error().is_some());
     io::write_all(STDERR, what);
     io::write_all(STDERR, b": ");
-    print_said(&said.text, n);
+    io::write_all(STDERR, without_number(said.as_str()).as_bytes());
     io::write_all(STDERR, b"\n");
 }
 
-// An error's text.
-#[derive(Drop)]
-struct Said {
-    text: [u8; 320],
-    length: usize,
-}
-
-impl fmt::Write for Said {
-    fn write_str(&mut self, s: &str) -> fmt::Result {
-        for x in s.as_bytes() {
-            if self.length < 320 {
-                self.text[self.length] = *x;
-                self.length += 1;
-            }
-        }
-        Ok(())
+// An error's text without the errno's number, which ends it, in parentheses after a space.
+fn without_number(said: &str) -> &str {
+    match said.rsplit_once(" (os error ") {
+        Some((text, _)) => text,
+        None => said,
     }
-}
-
-impl Said {
-    // The length without the errno's number, which ends the text, in parentheses after a space.
-    fn plain_length(&self, has_number: bool) -> usize {
-        let mut n = self.length;
-        if has_number {
-            for i in 0..320 {
-                if i < self.length {
-                    if self.text[i] == b'(' {
-                        n = i.saturating_sub(1);
-                    }
-                }
-            }
-        }
-        n
-    }
-}
-
-fn print_said(text: &[u8; 320], n: usize) {
-    print_part(STDERR, text, n);
 }
 
 // How many words the program was started with, its own name among them.
@@ -152,9 +121,7 @@ const INVALID: i32 = 22;
 
 // A file's name.
 pub fn print_name(fd: i32, name: &[u8]) -> bool {
-    let mut shown = [0u8; 16384];
-    let n = show(name, &mut shown);
-    print_shown(fd, &shown, n)
+    io::write_all(fd, shown(name).as_slice())
 }
 
 // A message that begins with a file's name.
@@ -163,106 +130,69 @@ pub fn say_of(name: &[u8], text: &[u8]) {
     io::write_all(STDERR, text);
 }
 
-// The arrays as slices: their length is known by their type here.
-fn fail_shown(shown: &[u8; 16384], n: usize, error: &Error) {
-    fail_part(shown, n, error);
-}
-
-fn print_shown(fd: i32, shown: &[u8; 16384], n: usize) -> bool {
-    print_part(fd, shown, n)
-}
-
-fn fail_part(shown: &[u8], n: usize, error: &Error) {
-    if n <= shown.len() {
-        fail_with(&shown[..n], error);
-    }
-}
-
-fn print_part(fd: i32, shown: &[u8], n: usize) -> bool {
-    if n <= shown.len() {
-        return io::write_all(fd, &shown[..n]);
-    }
-    false
-}
-
-// A name as it can be shown, four characters for a byte at the most; a path has no more than 4,096 bytes.
-fn show(name: &[u8], shown: &mut [u8; 16384]) -> usize {
-    let mut n = 0;
+// A name as it can be shown, four characters for a byte at the most; a path has no more than 4,096 bytes. What has no room is left out.
+fn shown(name: &[u8]) -> ArrayVec<u8, 16384> {
+    let mut shown = ArrayVec::new();
     let mut parts = 0;
-    let mut i = 0;
-    while i < name.len() {
-        let x = name[i];
-        n = show_byte(shown, n, parts, x);
-        parts = parts_after(parts, x);
-        i += 1;
+    for x in name {
+        show_byte(&mut shown, parts, *x);
+        parts = parts_after(parts, *x);
     }
-    n
+    shown
 }
 
-fn show_byte(shown: &mut [u8; 16384], n: usize, parts: u8, x: u8) -> usize {
+fn show_byte(shown: &mut ArrayVec<u8, 16384>, parts: u8, x: u8) {
     if is_plain(parts, x) {
-        return put(shown, n, x);
+        let _ = shown.try_push(x);
+        return;
     }
-    let a = put(shown, n, b'\\');
-    let b = put(shown, a, b'x');
-    let c = put(shown, b, digit(x / 16));
-    put(shown, c, digit(x % 16))
+    for y in [
+        b'\\',
+        b'x',
+        DIGITS[usize::from(x / 16)],
+        DIGITS[usize::from(x % 16)],
+    ] {
+        let _ = shown.try_push(y);
+    }
 }
+
+const DIGITS: &[u8; 16] = b"0123456789ABCDEF";
 
 // No control character, of ASCII or of the row above it. UTF-8 has these as C2 and a byte of 80 to 9F; such a byte is plain only as a part of a longer letter.
 fn is_plain(parts: u8, x: u8) -> bool {
-    if x < 32 {
-        return false;
+    match x {
+        0..=31 | 127 => false,
+        128..=159 => 0 < parts,
+        _ => true,
     }
-    if x < 127 {
-        return true;
-    }
-    if 159 < x {
-        return true;
-    }
-    if x == 127 {
-        return false;
-    }
-    0 < parts
 }
 
 // How many bytes of a letter are still to come, so far as they can be 80 to 9F.
 fn parts_after(parts: u8, x: u8) -> u8 {
-    if x < 0x80 {
-        return 0;
+    match x {
+        0x80..=0xbf => parts.saturating_sub(1),
+        0xc3..=0xdf => 1,
+        0xe0..=0xef => 2,
+        0xf0..=0xff => 3,
+        _ => 0,
     }
-    if x < 0xc0 {
-        if 0 < parts {
-            return parts - 1;
-        }
-        return 0;
-    }
-    if x < 0xc3 {
-        return 0;
-    }
-    if x < 0xe0 {
-        return 1;
-    }
-    if x < 0xf0 {
-        return 2;
-    }
-    3
 }
 
-fn put(shown: &mut [u8; 16384], n: usize, x: u8) -> usize {
-    if n < 16384 {
-        shown[n] = x;
-        return n + 1;
-    }
-    n
-}
+#[cfg(test)]
+mod tests {
+    use super::*;
 
-fn digit(d: u8) -> u8 {
-    if d < 10 {
-        return 48 + d;
+    // Of two numbers the greater.
+    fn worse_number(a: u8, b: u8) -> u8
+        ensures { result ≡ max a b }
+    {
+        worse(a, b)
     }
-    if d < 16 {
-        return 55 + d;
+
+    #[test]
+    fn ends_are_in_order(rt: HostRuntime) {
+        assert_eq!(rt; worse_number(0, 141), 141);
+        assert_eq!(rt; worse(Exit::Usage, Exit::Failed), Exit::Usage);
+        assert_eq!(rt; u8::from(worse(Exit::Well, Exit::Closed)), 141);
     }
-    b'?'
 }

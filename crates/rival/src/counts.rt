@@ -1,166 +1,136 @@
 // What the tapes do: how often each status, operation and kind of DMA cycle came, each case of register 0 of the DMA chip, and modes by words, counted by
 // the records and the second board's answers.
-use crate::show;
+ghost use Rattle.std.specs.Prelude.{◌≡◌, ◌+◌, ◌-◌, ◌^◌, min};
+
 use crate::stretch::{Answers, Tape};
-use report::STDOUT;
+use std::fmt;
 
-// The counts, in the order in which they are printed: records; calls of the first board, of them those refused with 7, and of these those on a board
-// with a field out of its range; statuses 0 to 6; operations 0 to 6, and any other; kinds of DMA cycle; cases of register 0; modes by words.
-#[derive(Clone, Copy)]
+// The counts, in the order in which they are printed; the last two are not printed here.
+#[derive(Clone, Copy, Default)]
 pub struct Tally {
-    pub n: [u64; 32],
+    records: u64,
+    // Calls of the first board, of them those refused with 7, and of these those on a board with a field out of its range.
+    pub calls: u64,
+    pub refused: u64,
+    pub spoilt: u64,
+    statuses: [u64; 7],
+    // Operations 0 to 6, and any other.
+    operations: [u64; 8],
+    cycles: [u64; 4],
+    // Register 0: D0 without D1 and with it, D1 alone, neither, which may be refused.
+    resets: u64,
+    wide_resets: u64,
+    wide: u64,
+    narrow: u64,
+    narrow_refused: u64,
+    // Modes by words.
+    by_words: u64,
+    by_words_refused: u64,
+    pub differences: u64,
+    // Calls that were not what they should be.
+    pub wrong: u64,
 }
 
-pub const RECORDS: usize = 0;
-
-pub const CALLS: usize = 1;
-
-pub const REFUSED: usize = 2;
-
-pub const SPOILT: usize = 3;
-
-const STATUSES: usize = 4;
-
-const OPERATIONS: usize = 11;
-
-const KINDS: usize = 19;
-
-const COMMANDS: usize = 23;
-
-const MODES: usize = 28;
-// Not printed here: differences, and calls that were not what they should be.
-pub const DIFFERENCES: usize = 30;
-
-pub const WRONG: usize = 31;
-
-pub fn zero() -> Tally {
-    Tally { n: [0; 32] }
+// n more. A count stays at the greatest number.
+pub fn add(count: &mut u64, n: u64)
+    ensures { count.new ≡ min (count.old + n) (2 ^ 64 - 1) }
+{
+    *count = count.saturating_add(n);
 }
 
-pub fn at(tally: Tally, place: usize) -> u64 {
-    let i = place % 32;
-    tally.n[i]
-}
-
-pub fn add(tally: Tally, place: usize, n: u64) -> Tally {
-    let mut next = tally;
-    let i = place % 32;
-    next.n[i] = tally.n[i] % 4294967296 + n % 4294967296;
-    next
-}
-
-// The tally with a count begun anew.
-pub fn cleared(tally: Tally, place: usize) -> Tally {
-    let mut next = tally;
-    let i = place % 32;
-    next.n[i] = 0;
-    next
-}
-
-fn place_of_status(status: u8) -> usize {
-    STATUSES + second::index(second::wide(status)) % 7
-}
-
-fn place_of_operation(op: u8) -> usize {
-    if op > 6 {
-        return OPERATIONS + 7;
-    }
-    OPERATIONS + second::index(second::wide(op)) % 7
-}
-
-fn count_answer(tally: Tally, status: u8, op: u8, kind: u8) -> Tally {
-    let next = add(
-        add(add(tally, RECORDS, 1), place_of_status(status), 1),
-        place_of_operation(op),
-        1,
-    );
-    if (status == 0) & (op == 6) {
-        return add(next, KINDS + second::index(second::wide(kind)) % 4, 1);
-    }
-    next
-}
-
-// 1 for status 4.
-fn refused(status: u8) -> usize {
-    second::index(second::wide(status)) / 4 % 2
-}
-
-// Register 0: D0 without D1 and with it, D1 alone, neither, which may be refused.
-fn place_of_command(status: u8, data: u8) -> usize {
-    match data % 4 {
-        1 => COMMANDS,
-        3 => COMMANDS + 1,
-        2 => COMMANDS + 2,
-        _ => COMMANDS + 3 + refused(status) % 2,
+// One more at a place, if there is such a place.
+pub(crate) fn add_at(counts: &mut [u64], place: usize) {
+    if let Some(count) = counts.get_mut(place) {
+        add(count, 1);
     }
 }
 
 // Whether a mode byte is refused for its word bit alone, if it is refused.
 fn is_by_words(data: u8) -> bool {
-    (data % 4 == 1) & (data / 4 % 4 != 3) & (data / 64 != 3)
+    data % 4 == 1 && data / 4 % 4 != 3 && data / 64 != 3
 }
 
-// A write that the chip has taken or refused with 4.
-fn count_write(tally: Tally, status: u8, port: u8, data: u8) -> Tally {
-    if (port == 0x2A) & is_by_words(data) {
-        return add(tally, MODES + refused(status) % 2, 1);
-    }
-    if port == 0x20 {
-        return add(tally, place_of_command(status, data), 1);
-    }
-    tally
-}
-
-// 64 records with their answers.
-pub fn count_answers(tally: Tally, tape: &Tape, answers: &Answers) -> Tally {
-    let mut next = tally;
-    let mut i: usize = 0;
-    while i < 64 {
-        let place = i * 16;
-        let at = i * 8;
-        let status = answers[place];
-        next = count_answer(next, status, answers[place + 1], answers[place + 4]);
-        if (tape[at] == 1) & ((status == 0) | (status == 4)) {
-            next = count_write(next, status, tape[at + 1], tape[at + 2]);
+impl Tally {
+    fn count_answer(&mut self, answer: &[u8; 16]) {
+        let [status, op, _, _, kind, ..] = *answer;
+        add(&mut self.records, 1);
+        add_at(&mut self.statuses, usize::from(status));
+        add_at(&mut self.operations, usize::from(op.min(7)));
+        if status == 0 && op == 6 {
+            add_at(&mut self.cycles, usize::from(kind));
         }
-        i += 1;
     }
-    next
+
+    // A write that the chip has taken or refused with 4.
+    fn count_write(&mut self, refused: bool, port: u8, data: u8) {
+        if port == 0x2A && is_by_words(data) {
+            if refused {
+                add(&mut self.by_words_refused, 1);
+            } else {
+                add(&mut self.by_words, 1);
+            }
+        } else if port == 0x20 {
+            match data % 4 {
+                1 => add(&mut self.resets, 1),
+                3 => add(&mut self.wide_resets, 1),
+                2 => add(&mut self.wide, 1),
+                _ if refused => add(&mut self.narrow_refused, 1),
+                _ => add(&mut self.narrow, 1),
+            }
+        }
+    }
+
+    // 64 records with their answers.
+    pub fn count_answers(&mut self, tape: &Tape, answers: &Answers) {
+        for (record, answer) in tape.iter().zip(answers) {
+            self.count_answer(answer);
+            let [op, port, data, ..] = *record;
+            let status = answer[0];
+            if op == 1 && (status == 0 || status == 4) {
+                self.count_write(status == 4, port, data);
+            }
+        }
+    }
 }
 
-pub fn print_all(tally: Tally) -> bool {
-    let numbers = tally.n;
-    show::fill(
-        STDOUT,
-        b"records: %
-calls: %
-calls refused with 7: %
-of them for a field out of range: %
-status 0: %
-status 1: %
-status 2: %
-status 3: %
-status 4: %
-status 5: %
-status 6: %
-operation 0, reset: %
-operation 1, write: %
-operation 2, read: %
-operation 3, lines: %
-operation 4, acknowledge: %
-operation 5, advance: %
-operation 6, DMA cycle: %
-other operations: %
-cycles, nothing: %
-cycles, granted: %
-cycles, moved: %
-cycles, released: %
-register 0, D0 set and D1 clear: %
-D0 and D1 set: %
-D0 clear and D1 set: %
-D0 and D1 clear, taken %, refused with 4 %
-modes by words: taken %, refused on a narrow bus %
-",
-        numbers,
-    )
+impl fmt::Display for Tally {
+    fn fmt<W: fmt::Write>(&self, f: &mut fmt::Formatter<W>) -> fmt::Result {
+        writeln!(f, "records: {}", self.records)?;
+        writeln!(f, "calls: {}", self.calls)?;
+        writeln!(f, "calls refused with 7: {}", self.refused)?;
+        writeln!(f, "of them for a field out of range: {}", self.spoilt)?;
+        for (status, count) in self.statuses.iter().enumerate() {
+            writeln!(f, "status {status}: {count}")?;
+        }
+        let operations = [
+            "operation 0, reset",
+            "operation 1, write",
+            "operation 2, read",
+            "operation 3, lines",
+            "operation 4, acknowledge",
+            "operation 5, advance",
+            "operation 6, DMA cycle",
+            "other operations",
+        ];
+        for (name, count) in operations.iter().zip(&self.operations) {
+            writeln!(f, "{name}: {count}")?;
+        }
+        let cycles = ["nothing", "granted", "moved", "released"];
+        for (name, count) in cycles.iter().zip(&self.cycles) {
+            writeln!(f, "cycles, {name}: {count}")?;
+        }
+        writeln!(f, "register 0, D0 set and D1 clear: {}", self.resets)?;
+        writeln!(f, "D0 and D1 set: {}", self.wide_resets)?;
+        writeln!(f, "D0 clear and D1 set: {}", self.wide)?;
+        writeln!(
+            f,
+            "D0 and D1 clear, taken {}, refused with 4 {}",
+            self.narrow, self.narrow_refused,
+        )?;
+        writeln!(
+            f,
+            "modes by words: taken {}, refused on a narrow bus {}",
+            self.by_words, self.by_words_refused,
+        )
+    }
 }

@@ -1,152 +1,103 @@
 // What the counters do, mode by mode: counted by the second board before and after each record, and by its answer. docs/DUEL.md has the words.
-use crate::show;
-use report::STDOUT;
-use second::{State, Watched};
+use crate::counts::add;
+use crate::stretch::Step;
+use second::Watched;
+use std::fmt;
 
-// For each mode five counts, in the order in which they are printed.
-#[derive(Clone, Copy)]
+// What the counters in one mode do.
+#[derive(Clone, Copy, Default)]
+struct Mode {
+    pulses: u64,
+    loads: u64,
+    triggers: u64,
+    ends: u64,
+    rewrites: u64,
+}
+
+#[derive(Clone, Copy, Default)]
 pub struct Modes {
-    n: [u64; 32],
+    modes: [Mode; 6],
 }
 
-const PULSES: u32 = 0;
-
-const LOADS: u32 = 1;
-
-const TRIGGERS: u32 = 2;
-
-const ENDS: u32 = 3;
-
-const REWRITES: u32 = 4;
-
-pub fn zero() -> Modes {
-    Modes { n: [0; 32] }
-}
-
-// A counter with no mode counts nothing.
-fn add(modes: Modes, mode: u32, kind: u32, n: u32) -> Modes {
-    if mode > 5 {
-        return modes;
+impl Mode {
+    // A write that leaves the counter another complete count than the one it had.
+    fn count_write(&mut self, before: Watched, after: Watched) {
+        if before.complete && after.complete && before.count != after.count {
+            add(&mut self.rewrites, 1);
+        }
     }
-    let at = second::index(mode % 6 * 5 + kind % 5) % 32;
-    let mut next = modes;
-    next.n[at] = modes.n[at] % 4294967296 + n as u64;
-    next
-}
 
-fn number(b: bool) -> u32 {
-    second::choose(b, 1, 0)
-}
-
-// A write that leaves the counter another complete count than the one it had.
-fn count_write(modes: Modes, before: Watched, after: Watched) -> Modes {
-    let both = (before.complete == 1) & (after.complete == 1);
-    let rewritten = both & (before.count != after.count);
-    add(modes, before.mode, REWRITES, number(rewritten))
-}
-
-// A rise of the gate after which a trigger pends.
-fn count_gate(modes: Modes, before: Watched, after: Watched) -> Modes {
-    let risen = (before.gate == 0) & (after.gate == 1);
-    add(
-        modes,
-        before.mode,
-        TRIGGERS,
-        number(risen & (after.triggered == 1)),
-    )
-}
-
-// Pulses of a counter with a complete count: a count that waited, or a trigger, may be used up, and OUT may have risen.
-fn count_pulses(modes: Modes, before: Watched, after: Watched, n: u32, rises: u32) -> Modes {
-    if before.complete == 0 {
-        return modes;
+    // A rise of the gate after which a trigger pends.
+    fn count_gate(&mut self, before: Watched, after: Watched) {
+        if !before.gate && after.gate && after.triggered {
+            add(&mut self.triggers, 1);
+        }
     }
-    let used = (before.waiting > after.waiting) | (before.triggered > after.triggered);
-    let pulsed = add(modes, before.mode, PULSES, n);
-    let loaded = add(pulsed, before.mode, LOADS, number(used));
-    add(loaded, before.mode, ENDS, rises)
-}
 
-// One counter: the record's operation and pulses, and how often its OUT rose in them.
-fn count_counter(
-    modes: Modes,
-    before: Watched,
-    after: Watched,
-    op: u32,
-    n: u32,
-    rises: u32,
-) -> Modes {
-    match op {
-        1 => count_write(modes, before, after),
-        3 => count_gate(modes, before, after),
-        5 => count_pulses(modes, before, after, n, rises),
-        _ => modes,
+    // Pulses of a counter with a complete count: a count that waited, or a trigger, may be used up, and OUT may have risen.
+    fn count_pulses(&mut self, before: Watched, after: Watched, pulses: u32, rises: u16) {
+        if !before.complete {
+            return;
+        }
+        add(&mut self.pulses, u64::from(pulses));
+        if before.waiting && !after.waiting || before.triggered && !after.triggered {
+            add(&mut self.loads, 1);
+        }
+        add(&mut self.ends, u64::from(rises));
     }
 }
 
-fn rises_at(low: u8, high: u8) -> u32 {
-    second::wide(low) + second::wide(high) * 256
+impl Modes {
+    // One counter. A counter with no mode counts nothing.
+    fn count_counter(&mut self, step: &Step, counter: u8) {
+        let before = second::watch(step.before, u32::from(counter));
+        let after = second::watch(step.after, u32::from(counter));
+        let Some(number) = before.mode else {
+            return;
+        };
+        let Some(mode) = self.modes.get_mut(number as usize) else {
+            return;
+        };
+        match step.op() {
+            1 => mode.count_write(before, after),
+            3 => mode.count_gate(before, after),
+            5 => mode.count_pulses(
+                before,
+                after,
+                step.pulses(),
+                step.rises(usize::from(counter)),
+            ),
+            _ => {}
+        }
+    }
+
+    pub(crate) fn count_record(&mut self, step: &Step) {
+        if step.status() == 0 && touches_timer(step.op(), step.port()) {
+            for counter in 0..3 {
+                self.count_counter(step, counter);
+            }
+        }
+    }
 }
 
 // An operation that may change a counter, but for a reset: a write to the timer's ports, gates, an advance.
-fn touches_timer(op: u32, x: u32) -> bool {
+fn touches_timer(op: u8, port: u8) -> bool {
     match op {
-        1 => x / 16 == 1,
-        3 => x == 1,
+        1 => port / 16 == 1,
+        3 => port == 1,
         _ => op == 5,
     }
 }
 
-// A record that was taken: the board before and after it, its bytes 0 to 3 and 4 to 7 as words, and its answer.
-pub fn count_record(
-    modes: Modes,
-    before: State,
-    after: State,
-    low: u32,
-    high: u32,
-    answer: [u8; 16],
-) -> Modes {
-    let op = low % 256;
-    if (answer[0] != 0) | !touches_timer(op, low / 256 % 256) {
-        return modes;
+impl fmt::Display for Modes {
+    fn fmt<W: fmt::Write>(&self, f: &mut fmt::Formatter<W>) -> fmt::Result {
+        for (n, mode) in self.modes.iter().enumerate() {
+            writeln!(
+                f,
+                "mode {n}: pulses {}, loads {}, triggers {}, ends {}, rewrites {}",
+                mode.pulses, mode.loads, mode.triggers, mode.ends, mode.rewrites,
+            )?;
+        }
+        Ok(())
     }
-    let zero = count_counter(
-        modes,
-        second::watch(before, 0),
-        second::watch(after, 0),
-        op,
-        high,
-        rises_at(answer[4], answer[5]),
-    );
-    let one = count_counter(
-        zero,
-        second::watch(before, 1),
-        second::watch(after, 1),
-        op,
-        high,
-        rises_at(answer[8], answer[9]),
-    );
-    count_counter(
-        one,
-        second::watch(before, 2),
-        second::watch(after, 2),
-        op,
-        high,
-        rises_at(answer[12], answer[13]),
-    )
-}
-
-pub fn print_all(modes: Modes) -> bool {
-    let numbers = modes.n;
-    show::fill(
-        STDOUT,
-        b"mode 0: pulses %, loads %, triggers %, ends %, rewrites %
-mode 1: pulses %, loads %, triggers %, ends %, rewrites %
-mode 2: pulses %, loads %, triggers %, ends %, rewrites %
-mode 3: pulses %, loads %, triggers %, ends %, rewrites %
-mode 4: pulses %, loads %, triggers %, ends %, rewrites %
-mode 5: pulses %, loads %, triggers %, ends %, rewrites %
-",
-        numbers,
-    )
 }

@@ -1,194 +1,207 @@
 // Where units lie: inside the lent memory or outside it, by their direction and their width. Counted by the address in a unit's answer, by the second
 // board's mode of its channel and by the memory's length. What the answer says of the place, its bytes 12 and 13, is held against that. docs/DUEL.md has
 // the words.
-ghost use Rattle.std.specs.Prelude.{◌<◌};
+use crate::counts::add;
+use crate::stretch::Step;
+use second::{Direction, Moving};
+use std::fmt;
 
-use crate::counts::Tally;
-use crate::{counts, show};
-use report::STDOUT;
-use second::{Moving, State};
-
-// The counts, in the order in which they are printed.
-#[derive(Clone, Copy)]
+// The counts.
+#[derive(Clone, Copy, Default)]
 pub struct Places {
-    // Units of a byte: four for each direction.
-    bytes: Tally,
-    // Words: eight for each direction.
-    words: Tally,
-    // Words at the four addresses where the address space begins and ends, to memory and from memory, upwards and downwards each; then the units whose byte
-    // 12, and those whose byte 13, says otherwise.
-    ends: Tally,
+    to_memory: Units,
+    from_memory: Units,
+    verified: Units,
+    // Units whose byte 12, and those whose byte 13, says otherwise.
+    fell_otherwise: u64,
+    moved_otherwise: u64,
 }
 
-const OTHERWISE: usize = 16;
+// The units of one direction.
+#[derive(Clone, Copy, Default)]
+struct Units {
+    bytes: Bytes,
+    words: Words,
+}
 
-pub fn zero() -> Places {
-    Places {
-        bytes: counts::zero(),
-        words: counts::zero(),
-        ends: counts::zero(),
+#[derive(Clone, Copy, Default)]
+struct Bytes {
+    // Inside the memory, of these at its last byte; outside, of these at the address that is its length.
+    inside: u64,
+    last: u64,
+    outside: u64,
+    at_length: u64,
+}
+
+#[derive(Clone, Copy, Default)]
+struct Words {
+    // Inside, half outside and outside, upwards and downwards each.
+    lying: [[u64; 2]; 3],
+    // At an even address, and at an odd one.
+    even: u64,
+    odd: u64,
+    // Upwards and downwards, at the four addresses where the address space begins and ends.
+    ends: [[u64; 4]; 2],
+}
+
+// A unit that moved: how its channel moves it, its address, and the memory's length.
+#[derive(Clone, Copy)]
+struct Unit {
+    moving: Moving,
+    at: usize,
+    length: usize,
+}
+
+impl Unit {
+    // How many of its bytes the memory lacks. A word is at its even address and at the one above.
+    fn missing(&self) -> usize {
+        if self.moving.by_words {
+            usize::from(self.at & !1 >= self.length) + usize::from(self.at | 1 >= self.length)
+        } else {
+            usize::from(self.at >= self.length)
+        }
+    }
+
+    // The upper byte: that of the device, or that of the memory, which a unit to the device leaves as it was.
+    fn upper(&self, device: u8, memory: &[u8]) -> u8 {
+        if !self.moving.by_words {
+            return 0;
+        }
+        match self.moving.direction {
+            Direction::Verify => 0,
+            Direction::ToMemory => device,
+            Direction::ToDevice => memory.get(self.at | 1).copied().unwrap_or(0xFF),
+        }
     }
 }
 
-fn add_if(tally: Tally, place: usize, b: bool) -> Tally {
-    counts::add(tally, place, b as u64)
-}
-
-// 0 to memory, 1 from memory, 2 verified.
-fn row_of(moving: Moving) -> usize {
-    second::index((moving.direction % 4 + 2) % 3) % 3
-}
-
-// The even address of a word.
-fn even(at: usize) -> usize
-    ensures { result < 16777216 }
-{
-    at % 16777216 / 2 * 2
-}
-
-// How many of a unit's bytes the memory lacks.
-fn missing(moving: Moving, at: usize, length: usize) -> usize {
-    if !moving.by_words {
-        return (at >= length) as usize;
-    }
-    if even(at) >= length {
-        return 2;
-    }
-    (even(at) + 1 >= length) as usize
-}
-
-// Inside, and at the memory's last byte; outside, and at the address that is its length.
-fn count_byte(bytes: Tally, moving: Moving, at: usize, length: usize) -> Tally {
-    let first = row_of(moving) % 3 * 4;
-    if at < length {
-        return add_if(counts::add(bytes, first, 1), first + 1, at + 1 == length);
-    }
-    add_if(counts::add(bytes, first + 2, 1), first + 3, at == length)
-}
-
-// Inside, half outside and outside, upwards and downwards each; at an even address, and at an odd one.
-fn count_word(words: Tally, moving: Moving, at: usize, length: usize) -> Tally {
-    let first = row_of(moving) % 3 * 8;
-    let lies = missing(moving, at, length) % 3 * 2 + second::index(moving.down) % 2;
-    counts::add(counts::add(words, first + lies, 1), first + 6 + at % 2, 1)
-}
-
-// Which of the four addresses this is, or 4.
-fn end_of(at: usize) -> usize {
-    match at {
-        0 => 0,
-        1 => 1,
-        0xFFFFFE => 2,
-        0xFFFFFF => 3,
-        _ => 4,
+impl Bytes {
+    fn count(&mut self, unit: &Unit) {
+        if unit.at < unit.length {
+            add(&mut self.inside, 1);
+            add(&mut self.last, u64::from(unit.at + 1 == unit.length));
+        } else {
+            add(&mut self.outside, 1);
+            add(&mut self.at_length, u64::from(unit.at == unit.length));
+        }
     }
 }
 
-fn count_end(ends: Tally, moving: Moving, at: usize) -> Tally {
-    let end = end_of(at);
-    if (end > 3) | (moving.direction == 0) {
-        return ends;
+impl Words {
+    fn count(&mut self, unit: &Unit) {
+        let down = usize::from(unit.moving.down);
+        add(&mut self.lying[unit.missing() % 3][down], 1);
+        if unit.at % 2 == 0 {
+            add(&mut self.even, 1);
+        } else {
+            add(&mut self.odd, 1);
+        }
+        let end = match unit.at {
+            0 => 0,
+            1 => 1,
+            0xFFFFFE => 2,
+            0xFFFFFF => 3,
+            _ => return,
+        };
+        add(&mut self.ends[down][end], 1);
     }
-    let row = row_of(moving) % 3 * 2 + second::index(moving.down) % 2;
-    counts::add(ends, row * 4 + end % 4, 1)
 }
 
-fn count_unit(places: Places, moving: Moving, at: usize, length: usize) -> Places {
-    let mut next = places;
-    if moving.by_words {
-        next.words = count_word(places.words, moving, at, length);
-        next.ends = count_end(places.ends, moving, at);
-        return next;
+impl Units {
+    fn count(&mut self, unit: &Unit) {
+        if unit.moving.by_words {
+            self.words.count(unit);
+        } else {
+            self.bytes.count(unit);
+        }
     }
-    next.bytes = count_byte(places.bytes, moving, at, length);
-    next
 }
 
-// The upper byte of a unit: that of the device, or that of the memory, which a unit to the device leaves as it was.
-fn upper_of(moving: Moving, at: usize, device: u8, memory: &[u8]) -> u8 {
-    if !moving.by_words | (moving.direction == 0) {
-        return 0;
+impl Places {
+    // The memory is as it is after the record.
+    pub(crate) fn count_record(&mut self, step: &Step, memory: &[u8]) {
+        let answer = step.answer;
+        if step.status() != 0 || answer[1] != 6 || answer[4] != 2 {
+            return;
+        }
+        let at = u32::from_le_bytes([answer[8], answer[9], answer[10], answer[11]]);
+        let unit = Unit {
+            moving: second::watch_channel(step.before, u32::from(answer[5])),
+            at: at as usize,
+            length: memory.len(),
+        };
+        match unit.moving.direction {
+            Direction::Verify => self.verified.count(&unit),
+            Direction::ToMemory => self.to_memory.count(&unit),
+            Direction::ToDevice => self.from_memory.count(&unit),
+        }
+        let falls = unit.moving.direction != Direction::Verify && unit.missing() > 0;
+        if answer[12] != u8::from(falls) {
+            add(&mut self.fell_otherwise, 1);
+        }
+        if answer[13] != unit.upper(step.record[3], memory) {
+            add(&mut self.moved_otherwise, 1);
+        }
     }
-    if moving.direction == 1 {
-        return device;
+
+    // How many bytes 12 and 13 said otherwise.
+    pub fn otherwise(&self) -> u64 {
+        self.fell_otherwise.saturating_add(self.moved_otherwise)
     }
-    let odd = even(at) + 1;
-    if odd < memory.len() {
-        return memory[odd];
+}
+
+impl fmt::Display for Places {
+    fn fmt<W: fmt::Write>(&self, f: &mut fmt::Formatter<W>) -> fmt::Result {
+        let all = [
+            ("to memory", self.to_memory),
+            ("from memory", self.from_memory),
+            ("verified", self.verified),
+        ];
+        for (direction, units) in all {
+            let bytes = units.bytes;
+            writeln!(
+                f,
+                "bytes {direction}: inside the memory {}, at its last byte {}, outside {}, at its length {}",
+                bytes.inside, bytes.last, bytes.outside, bytes.at_length,
+            )?;
+        }
+        for (direction, units) in all {
+            let words = units.words;
+            let [inside, half, outside] = words.lying;
+            writeln!(
+                f,
+                "words {direction}, upwards and downwards: inside the memory {} {}, half outside {} {}, outside {} {}; at an even address {}, at an odd one {}",
+                inside[0],
+                inside[1],
+                half[0],
+                half[1],
+                outside[0],
+                outside[1],
+                words.even,
+                words.odd,
+            )?;
+        }
+        for (direction, units) in [
+            ("to memory", self.to_memory),
+            ("from memory", self.from_memory),
+        ] {
+            let [up, down] = units.words.ends;
+            writeln!(
+                f,
+                "words {direction}, upwards: at 000000H {}, 000001H {}, FFFFFEH {}, FFFFFFH {}",
+                up[0], up[1], up[2], up[3],
+            )?;
+            writeln!(
+                f,
+                "downwards: at 000000H {}, 000001H {}, FFFFFEH {}, FFFFFFH {}",
+                down[0], down[1], down[2], down[3],
+            )?;
+        }
+        writeln!(
+            f,
+            "units whose byte 12 says otherwise: {}",
+            self.fell_otherwise
+        )?;
+        writeln!(f, "whose byte 13 says otherwise: {}", self.moved_otherwise)
     }
-    0xFF
-}
-
-// Bytes 12 and 13 as the answer has them, against what they have to be.
-fn hold(places: Places, fell: bool, upper: u8, told: u8, moved: u8) -> Places {
-    let ends = add_if(places.ends, OTHERWISE, told != fell as u8);
-    let mut next = places;
-    next.ends = add_if(ends, OTHERWISE + 1, moved != upper);
-    next
-}
-
-fn address_of(low: u8, middle: u8, high: u8, top: u8) -> u32 {
-    second::wide(low)
-        + second::wide(middle) * 256
-        + second::wide(high) * 65536
-        + second::wide(top) * 16777216
-}
-
-// The board before a record, the record's bytes 0 to 3 as a word, the memory after it, and its answer.
-pub fn count_record(
-    places: Places,
-    before: State,
-    low: u32,
-    memory: &[u8],
-    answer: [u8; 16],
-) -> Places {
-    if (answer[0] != 0) | (answer[1] != 6) | (answer[4] != 2) {
-        return places;
-    }
-    let moving = second::watch_channel(before, second::wide(answer[5]));
-    let at = second::index(address_of(answer[8], answer[9], answer[10], answer[11]));
-    let fell = (moving.direction != 0) & (missing(moving, at, memory.len()) > 0);
-    hold(
-        count_unit(places, moving, at, memory.len()),
-        fell,
-        upper_of(moving, at, (low / 16777216) as u8, memory),
-        answer[12],
-        answer[13],
-    )
-}
-
-// How many bytes 12 and 13 said otherwise.
-pub fn otherwise(places: Places) -> u64 {
-    let ends = places.ends;
-    counts::at(ends, OTHERWISE) % 4294967296 + counts::at(ends, OTHERWISE + 1) % 4294967296
-}
-
-fn print_numbers(text: &[u8], tally: Tally) -> bool {
-    let numbers = tally.n;
-    show::fill(STDOUT, text, numbers)
-}
-
-pub fn print_all(places: Places) -> bool {
-    print_numbers(
-        b"bytes to memory: inside the memory %, at its last byte %, outside %, at its length %
-bytes from memory: inside the memory %, at its last byte %, outside %, at its length %
-bytes verified: inside the memory %, at its last byte %, outside %, at its length %
-",
-        places.bytes,
-    ) & print_numbers(
-        b"words to memory, upwards and downwards: inside the memory % %, half outside % %, outside % %; at an even address %, at an odd one %
-words from memory, upwards and downwards: inside the memory % %, half outside % %, outside % %; at an even address %, at an odd one %
-words verified, upwards and downwards: inside the memory % %, half outside % %, outside % %; at an even address %, at an odd one %
-",
-        places.words,
-    ) & print_numbers(
-        b"words to memory, upwards: at 000000H %, 000001H %, FFFFFEH %, FFFFFFH %
-downwards: at 000000H %, 000001H %, FFFFFEH %, FFFFFFH %
-words from memory, upwards: at 000000H %, 000001H %, FFFFFEH %, FFFFFFH %
-downwards: at 000000H %, 000001H %, FFFFFEH %, FFFFFFH %
-units whose byte 12 says otherwise: %
-whose byte 13 says otherwise: %
-",
-        places.ends,
-    )
 }

@@ -1,192 +1,222 @@
 // What becomes of the slave on line 7: acknowledges by what the two interrupt chips are set up as and by who answers, IW3, and how the slave moves line
 // 7. Counted by the second board before and after each record, and by its answer. docs/DUEL.md has the words.
-use crate::show;
-use report::STDOUT;
-use second::{Joined, State};
+use crate::counts::{add, add_at};
+use crate::stretch::Step;
+use second::Joined;
+use std::fmt;
 
-// The counts, in the order in which they are printed.
-#[derive(Clone, Copy)]
+#[derive(Clone, Copy, Default)]
 pub struct Slave {
-    n: [u64; 32],
+    // Acknowledges, by what the master counts as and, within it, the slave: not ready, single, extended in CALL mode, in vector mode.
+    setups: [[u64; 4]; 4],
+    // Of both extended and alike: with the master's INT low, a level of its own, and level 7, one count for each cause that the slave has.
+    low: u64,
+    own: u64,
+    passed: [u64; 4],
+    // IW3.
+    master_words: Words,
+    slave_words: Words,
+    // Line 7, by a write, by lines and by an acknowledge.
+    by_write: Moves,
+    by_lines: Moves,
+    by_acknowledge: Moves,
+    // The slave's INT stays over an acknowledge that it answered; so does the line of an edge-triggered master.
+    stays: u64,
+    stays_by_edge: u64,
+    // The slave's INT moves behind INTP7.
+    hidden: u64,
 }
 
-// Acknowledges: a place for each set-up, by what the master counts as and, within it, the slave: not ready, single, extended in CALL mode, in vector mode.
-const SETUPS: [u32; 16] = [0, 1, 2, 2, 3, 4, 5, 5, 6, 7, 9, 11, 6, 7, 10, 8];
-// Of both extended and alike: by the master's INT and level, and then one for each cause that the slave has.
-const LOW: usize = 12;
-
-const OWN: usize = 13;
-
-const PASSED: usize = 14;
-// IW3: wrong and right, of the master and of the slave.
-const MASTER_WORD: usize = 18;
-
-const SLAVE_WORD: usize = 20;
-// Line 7, raised and lowered, by a write and by lines; lowered by an acknowledge.
-const BY_WRITE: usize = 22;
-
-const BY_LINES: usize = 24;
-
-const BY_ACKNOWLEDGE: usize = 26;
-// The slave's INT stays over an acknowledge that it answered; so does the line of an edge-triggered master.
-const STAYS: usize = 27;
-
-const STAYS_EDGE: usize = 28;
-// The slave's INT moves behind INTP7.
-const HIDDEN: usize = 29;
-
-pub fn zero() -> Slave {
-    Slave { n: [0; 32] }
+// How often IW3 came wrong and right.
+#[derive(Clone, Copy, Default)]
+struct Words {
+    wrong: u64,
+    right: u64,
 }
 
-fn add(slave: Slave, place: usize, n: u32) -> Slave {
-    let at = place % 32;
-    let mut next = slave;
-    next.n[at] = slave.n[at] % 4294967296 + n as u64;
-    next
-}
-
-fn number(b: bool) -> u32 {
-    second::choose(b, 1, 0)
-}
-
-fn setup_of(before: Joined) -> usize {
-    let row = second::index(before.master % 4 * 4 + before.slave % 4) % 16;
-    second::index(SETUPS[row] % 12)
-}
-
-// Who answers where both are extended and alike.
-fn answerer_of(before: Joined) -> usize {
-    if before.calls == 0 {
-        return LOW;
+impl Words {
+    // A write at A0=1 where IW3 may be awaited: 4 where it is wrong.
+    fn count(&mut self, awaits: bool, status: u8) {
+        if awaits {
+            if status == 0 {
+                add(&mut self.right, 1);
+            } else {
+                add(&mut self.wrong, 1);
+            }
+        }
     }
-    if before.level < 7 {
-        return OWN;
-    }
-    PASSED + second::index(before.cause) % 4
 }
 
-// The slave's INT over an acknowledge that it answered.
-fn count_stay(slave: Slave, before: Joined, after: Joined) -> Slave {
-    let stays = (before.offers == 1) & (after.offers == 1);
-    add(
-        add(slave, STAYS, number(stays)),
-        STAYS_EDGE,
-        number(stays & (before.by_edge == 1)),
-    )
+// How often line 7 rose and fell.
+#[derive(Clone, Copy, Default)]
+struct Moves {
+    raised: u64,
+    lowered: u64,
 }
 
-// An acknowledge that is neither 1 nor 2.
-fn count_acknowledge(slave: Slave, before: Joined, after: Joined) -> Slave {
-    let next = add(slave, setup_of(before), 1);
-    if (before.master != before.slave) | (before.master < second::EXTENDED_CALL) {
-        return next;
+impl Moves {
+    // The slave's INT may have moved, and line 7 with it where INTP7 is low.
+    fn count(&mut self, hidden: &mut u64, before: Joined, after: Joined) {
+        if before.offers == after.offers {
+            return;
+        }
+        if before.intp7 {
+            add(hidden, 1);
+        } else if before.offers {
+            add(&mut self.lowered, 1);
+        } else {
+            add(&mut self.raised, 1);
+        }
     }
-    let place = answerer_of(before);
-    let answered = add(next, place, 1);
-    if place == PASSED {
-        return count_stay(answered, before, after);
-    }
-    answered
 }
 
-// A write at A0=1 where IW3 is awaited: 4 where it is wrong.
-fn count_word(slave: Slave, place: usize, awaits: u32, status: u8) -> Slave {
-    if awaits == 0 {
-        return slave;
+impl Slave {
+    // An acknowledge that is neither 1 nor 2.
+    fn count_acknowledge(&mut self, before: Joined, after: Joined) {
+        if let Some(setups) = self.setups.get_mut(before.master as usize) {
+            add_at(setups, before.slave as usize);
+        }
+        if before.master != before.slave || !before.master.is_extended() {
+            return;
+        }
+        if !before.calls {
+            add(&mut self.low, 1);
+        } else if before.level < 7 {
+            add(&mut self.own, 1);
+        } else {
+            add_at(&mut self.passed, before.cause as usize);
+            if before.offers && after.offers {
+                add(&mut self.stays, 1);
+                add(&mut self.stays_by_edge, u64::from(before.by_edge));
+            }
+        }
     }
-    add(
-        slave,
-        place % 32 + second::index(number(status == 0)) % 2,
-        1,
-    )
-}
 
-// The slave's INT has moved, and line 7 with it where INTP7 is low. `place` has the rises, the next one the falls.
-fn count_line(slave: Slave, place: usize, before: Joined, after: Joined) -> Slave {
-    if before.offers == after.offers {
-        return slave;
+    fn count_write(&mut self, before: Joined, after: Joined, port: u8, status: u8) {
+        match port {
+            1 => self.master_words.count(before.master_awaits, status),
+            0x30 => self.by_write.count(&mut self.hidden, before, after),
+            0x31 => {
+                self.slave_words.count(before.slave_awaits, status);
+                self.by_write.count(&mut self.hidden, before, after);
+            }
+            _ => {}
+        }
     }
-    if before.intp7 == 1 {
-        return add(slave, HIDDEN, 1);
-    }
-    add(slave, place % 32 + second::index(before.offers) % 2, 1)
-}
 
-fn count_write(slave: Slave, before: Joined, after: Joined, port: u32, status: u8) -> Slave {
-    match port {
-        1 => count_word(slave, MASTER_WORD, before.master_awaits, status),
-        0x30 => count_line(slave, BY_WRITE, before, after),
-        0x31 => count_line(
-            count_word(slave, SLAVE_WORD, before.slave_awaits, status),
-            BY_WRITE,
-            before,
-            after,
-        ),
-        _ => slave,
+    pub(crate) fn count_record(&mut self, step: &Step) {
+        let status = step.status();
+        if status == 1 || status == 2 || !touches_chips(step.op(), step.port()) {
+            return;
+        }
+        let before = second::both_chips(step.before);
+        let after = second::both_chips(step.after);
+        match step.op() {
+            1 => self.count_write(before, after, step.port(), status),
+            3 => self.by_lines.count(&mut self.hidden, before, after),
+            _ => {
+                self.count_acknowledge(before, after);
+                self.by_acknowledge.count(&mut self.hidden, before, after);
+            }
+        }
     }
 }
 
 // Whether a record may have to do with both chips: a write to one of them, the slave's lines, an acknowledge.
-fn touches_chips(op: u32, x: u32) -> bool {
+fn touches_chips(op: u8, port: u8) -> bool {
     match op {
-        1 => (x < 2) | (x / 16 == 3),
-        3 => x == 3,
+        1 => port < 2 || port / 16 == 3,
+        3 => port == 3,
         _ => op == 4,
     }
 }
 
-// The board before and after a record, the record's bytes 0 to 3 as a word, and its answer. No acknowledge raises the slave's INT, so it has a place for falls
-// alone.
-pub fn count_record(
-    slave: Slave,
-    before: State,
-    after: State,
-    low: u32,
-    answer: [u8; 16],
-) -> Slave {
-    let op = low % 256;
-    let x = low / 256 % 256;
-    if (answer[0] == 1) | (answer[0] == 2) | !touches_chips(op, x) {
-        return slave;
+impl fmt::Display for Slave {
+    fn fmt<W: fmt::Write>(&self, f: &mut fmt::Formatter<W>) -> fmt::Result {
+        let [unready, single, by_call, by_vector] = self.setups;
+        writeln!(
+            f,
+            "acknowledges, master not ready: slave not ready {}, single {}, extended {}",
+            unready[0],
+            unready[1],
+            unready[2].saturating_add(unready[3]),
+        )?;
+        writeln!(
+            f,
+            "master single: slave not ready {}, single {}, extended {}",
+            single[0],
+            single[1],
+            single[2].saturating_add(single[3]),
+        )?;
+        writeln!(
+            f,
+            "master extended: slave not ready {}, single {}",
+            by_call[0].saturating_add(by_vector[0]),
+            by_call[1].saturating_add(by_vector[1]),
+        )?;
+        writeln!(
+            f,
+            "both extended: both vector {}, both CALL {}, master vector and slave CALL {}, master CALL and slave vector {}",
+            by_vector[3], by_call[2], by_vector[2], by_call[3],
+        )?;
+        writeln!(
+            f,
+            "both extended and alike, with the master's INT low: {}",
+            self.low
+        )?;
+        writeln!(f, "levels 0 to 6 by the master: {}", self.own)?;
+        let passed = [
+            "level 7 by the slave",
+            "level 7 with the slave's INT low, nothing asks",
+            "what asks is masked",
+            "what asks is outranked",
+        ];
+        for (cause, count) in passed.iter().zip(&self.passed) {
+            writeln!(f, "{cause}: {count}")?;
+        }
+        let words = self.master_words;
+        writeln!(
+            f,
+            "IW3 of the master: wrong {}, right {}",
+            words.wrong, words.right
+        )?;
+        let words = self.slave_words;
+        writeln!(
+            f,
+            "IW3 of the slave: wrong {}, right {}",
+            words.wrong, words.right
+        )?;
+        let moves = self.by_write;
+        writeln!(
+            f,
+            "line 7 by a write to the slave: raised {}, lowered {}",
+            moves.raised, moves.lowered,
+        )?;
+        let moves = self.by_lines;
+        writeln!(
+            f,
+            "by the slave's lines: raised {}, lowered {}",
+            moves.raised, moves.lowered
+        )?;
+        writeln!(
+            f,
+            "lowered by an acknowledge: {}",
+            self.by_acknowledge.lowered
+        )?;
+        writeln!(
+            f,
+            "the slave's INT stays high over its acknowledge: {}",
+            self.stays
+        )?;
+        writeln!(
+            f,
+            "of them with an edge-triggered master: {}",
+            self.stays_by_edge
+        )?;
+        writeln!(
+            f,
+            "the slave's INT moves while INTP7 is high: {}",
+            self.hidden
+        )
     }
-    let was = second::both_chips(before);
-    let is = second::both_chips(after);
-    match op {
-        1 => count_write(slave, was, is, x, answer[0]),
-        3 => count_line(slave, BY_LINES, was, is),
-        _ => count_line(
-            count_acknowledge(slave, was, is),
-            BY_ACKNOWLEDGE - 1,
-            was,
-            is,
-        ),
-    }
-}
-
-pub fn print_all(slave: Slave) -> bool {
-    let numbers = slave.n;
-    show::fill(
-        STDOUT,
-        b"acknowledges, master not ready: slave not ready %, single %, extended %
-master single: slave not ready %, single %, extended %
-master extended: slave not ready %, single %
-both extended: both vector %, both CALL %, master vector and slave CALL %, master CALL and slave vector %
-both extended and alike, with the master's INT low: %
-levels 0 to 6 by the master: %
-level 7 by the slave: %
-level 7 with the slave's INT low, nothing asks: %
-what asks is masked: %
-what asks is outranked: %
-IW3 of the master: wrong %, right %
-IW3 of the slave: wrong %, right %
-line 7 by a write to the slave: raised %, lowered %
-by the slave's lines: raised %, lowered %
-lowered by an acknowledge: %
-the slave's INT stays high over its acknowledge: %
-of them with an edge-triggered master: %
-the slave's INT moves while INTP7 is high: %
-",
-        numbers,
-    )
 }

@@ -1,7 +1,47 @@
-// A record and an answer by their bytes. An element of an array costs the prover much more than a field, so the bytes that choose words are taken out once.
-use crate::number;
+// A record and an answer by their bytes.
+ghost use Rattle.std.specs.Prelude.{◌≡◌, ◌<◌, ◌↔◌, IsSome};
+ghost use Rattle.sentences.specs.Bytes.{op_of, came_to, record_bytes, record_of, answer_bytes, answer_of};
 
-#[derive(Clone, Copy)]
+// What a record asks for, by its first byte.
+#[derive(Clone, Copy, PartialEq, Eq)]
+pub enum Op {
+    Reset,
+    Write,
+    Read,
+    Lines,
+    Acknowledge,
+    Advance,
+    Cycle,
+}
+
+impl Op {
+    fn of(byte: u8) -> Option<Op>
+        ensures known { IsSome result ↔ (byte < 7) }
+        ensures value { result ≡ op_of byte }
+    {
+        match byte {
+            0 => Some(Op::Reset),
+            1 => Some(Op::Write),
+            2 => Some(Op::Read),
+            3 => Some(Op::Lines),
+            4 => Some(Op::Acknowledge),
+            5 => Some(Op::Advance),
+            6 => Some(Op::Cycle),
+            _ => None,
+        }
+    }
+}
+
+// What a DMA cycle came to, by byte 4 of its answer.
+#[derive(Clone, Copy, PartialEq, Eq)]
+pub enum Cycle {
+    Nothing,
+    Granted,
+    Unit,
+    Released,
+}
+
+#[derive(Clone, Copy, PartialEq, Eq)]
 pub struct Record {
     pub op: u8,
     // a port, a group of lines, or the END of a cycle
@@ -10,65 +50,40 @@ pub struct Record {
     pub byte: u8,
     // the device's upper byte
     pub upper: u8,
-    // pulses, little end first
-    pub low: u8,
-    pub high: u8,
-    pub third: u8,
-    pub fourth: u8,
+    // the last four bytes, little end first
+    pub pulses: u32,
 }
 
 impl Record {
-    pub fn of(r: [u8; 8]) -> Record {
+    // None where there is no such operation.
+    pub fn operation(self) -> Option<Op>
+        ensures known { IsSome result ↔ (self.op < 7) }
+        ensures value { result ≡ op_of self.op }
+    {
+        Op::of(self.op)
+    }
+}
+
+impl From<[u8; 8]> for Record {
+    ghost from_gives = { λ bytes r. r ≡ record_of bytes };
+
+    fn from([op, port, byte, upper, p0, p1, p2, p3]: [u8; 8]) -> Record {
         Record {
-            op: r[0],
-            port: r[1],
-            byte: r[2],
-            upper: r[3],
-            low: r[4],
-            high: r[5],
-            third: r[6],
-            fourth: r[7],
+            op,
+            port,
+            byte,
+            upper,
+            pulses: u32::from_le_bytes([p0, p1, p2, p3]),
         }
     }
+}
 
-    pub fn bytes(self) -> [u8; 8] {
-        [
-            self.op,
-            self.port,
-            self.byte,
-            self.upper,
-            self.low,
-            self.high,
-            self.third,
-            self.fourth,
-        ]
-    }
+impl From<Record> for [u8; 8] {
+    ghost from_gives = { λ r bytes. bytes ≡ record_bytes r };
 
-    // The first eight facts; the others are 0.
-    pub fn facts(self) -> [u8; 16] {
-        [
-            self.op,
-            self.port,
-            self.byte,
-            self.upper,
-            self.low,
-            self.high,
-            self.third,
-            self.fourth,
-            0,
-            0,
-            0,
-            0,
-            0,
-            0,
-            0,
-            0,
-        ]
-    }
-
-    // The pulses of an advance that was done.
-    pub fn pulses(self) -> u32 {
-        number(self.low, self.high, 0, 0)
+    fn from(r: Record) -> [u8; 8] {
+        let [p0, p1, p2, p3] = r.pulses.to_le_bytes();
+        [r.op, r.port, r.byte, r.upper, p0, p1, p2, p3]
     }
 }
 
@@ -88,61 +103,34 @@ pub struct Answer {
     pub last: u8,
     // whether the bus is free after a unit
     pub free: u8,
-    // where the unit went, little end first
-    pub address0: u8,
-    pub address1: u8,
-    pub address2: u8,
-    pub address3: u8,
+    // where the unit went
+    pub address: u32,
     // whether that is past the end of memory
     pub outside: u8,
     // the upper byte of a word
     pub upper: u8,
-    // 0 but after an advance; in an acknowledge's row, facts beside the answer
-    pub first_fact: u8,
-    pub second_fact: u8,
+    // 0 but after an advance
+    pub others: [u8; 2],
 }
 
 impl Answer {
-    pub fn of(a: [u8; 16]) -> Answer {
-        Answer {
-            status: a[0],
-            op: a[1],
-            byte: a[2],
-            levels: a[3],
-            kind: a[4],
-            channel: a[5],
-            last: a[6],
-            free: a[7],
-            address0: a[8],
-            address1: a[9],
-            address2: a[10],
-            address3: a[11],
-            outside: a[12],
-            upper: a[13],
-            first_fact: a[14],
-            second_fact: a[15],
-        }
+    // None where there is no such operation.
+    pub fn operation(self) -> Option<Op>
+        ensures known { IsSome result ↔ (self.op < 7) }
+        ensures value { result ≡ op_of self.op }
+    {
+        Op::of(self.op)
     }
 
-    pub fn facts(self) -> [u8; 16] {
-        [
-            self.status,
-            self.op,
-            self.byte,
-            self.levels,
-            self.kind,
-            self.channel,
-            self.last,
-            self.free,
-            self.address0,
-            self.address1,
-            self.address2,
-            self.address3,
-            self.outside,
-            self.upper,
-            self.first_fact,
-            self.second_fact,
-        ]
+    pub fn cycle(self) -> Cycle
+        ensures { result ≡ came_to self.kind }
+    {
+        match self.kind {
+            1 => Cycle::Granted,
+            2 => Cycle::Unit,
+            3 => Cycle::Released,
+            _ => Cycle::Nothing,
+        }
     }
 
     // The record that the first eight bytes are.
@@ -152,14 +140,59 @@ impl Answer {
             port: self.op,
             byte: self.byte,
             upper: self.levels,
-            low: self.kind,
-            high: self.channel,
-            third: self.last,
-            fourth: self.free,
+            pulses: u32::from_le_bytes([self.kind, self.channel, self.last, self.free]),
         }
     }
+}
 
-    pub fn address(self) -> u32 {
-        number(self.address0, self.address1, self.address2, self.address3)
+impl From<[u8; 16]> for Answer {
+    ghost from_gives = { λ bytes a. a ≡ answer_of bytes };
+
+    fn from(a: [u8; 16]) -> Answer {
+        let [
+            status,
+            op,
+            byte,
+            levels,
+            kind,
+            channel,
+            last,
+            free,
+            a0,
+            a1,
+            a2,
+            a3,
+            outside,
+            upper,
+            x,
+            y,
+        ] = a;
+        Answer {
+            status,
+            op,
+            byte,
+            levels,
+            kind,
+            channel,
+            last,
+            free,
+            address: u32::from_le_bytes([a0, a1, a2, a3]),
+            outside,
+            upper,
+            others: [x, y],
+        }
+    }
+}
+
+impl From<Answer> for [u8; 16] {
+    ghost from_gives = { λ a bytes. bytes ≡ answer_bytes a };
+
+    fn from(a: Answer) -> [u8; 16] {
+        let [a0, a1, a2, a3] = a.address.to_le_bytes();
+        let [x, y] = a.others;
+        [
+            a.status, a.op, a.byte, a.levels, a.kind, a.channel, a.last, a.free, a0, a1, a2, a3,
+            a.outside, a.upper, x, y,
+        ]
     }
 }

@@ -1,123 +1,86 @@
 // A short text, built piece by piece, and the columns that it is laid out in.
+ghost use Rattle.std.specs.Prelude.{◌≡◌, ◌==◌, ◌≤◌, ◌<◌, ◌-◌, take, length};
+
 use report::{STDERR, STDOUT};
+use std::fmt;
+use std::fmt::Write;
 
 // What does not fit is left off.
-#[derive(Clone, Copy)]
+#[derive(Clone, Copy, PartialEq, Eq)]
 pub struct Text {
-    pub bytes: [u8; 400],
-    pub n: usize,
-}
-
-// In the place of levels, where none are shown.
-pub const NO_LEVELS: u8 = 16;
-
-// The character of a hexadecimal digit.
-pub fn glyph(d: u8) -> u8 {
-    if d < 10 {
-        return 48 + d;
-    }
-    if d < 16 {
-        return 55 + d;
-    }
-    b'?'
-}
-
-fn is_digit(c: u8) -> bool {
-    match c / 16 {
-        3 => c % 16 < 10,
-        4 => (0x40 < c) & (c < 0x47),
-        _ => false,
-    }
+    bytes: [u8; 400],
+    len: usize,
+    ghost fits: { len ≤ 400 },
 }
 
 impl Text {
     pub fn new() -> Text {
         Text {
-            bytes: [0u8; 400],
-            n: 0,
+            bytes: [0; 400],
+            len: 0,
         }
     }
 
+    pub fn as_bytes(&self) -> &[u8]
+        ensures fits { length result.now ≤ 400 }
+        ensures value { result.now ≡ take self.now.len self.now.bytes }
+    {
+        &self.bytes[..self.len]
+    }
+
+    pub fn is_empty(&self) -> bool
+        ensures { result ≡ (self.now.len == 0) }
+    {
+        self.len == 0
+    }
+
     pub fn put(mut self, b: u8) -> Text {
-        let n = self.n;
-        if n < 400 {
-            self.bytes[n] = b;
-            self.n = n + 1;
-            return self;
+        if self.len < 400 {
+            self.bytes[self.len] = b;
+            self.len += 1;
         }
         self
     }
 
-    pub fn say(self, s: &[u8]) -> Text {
-        let mut t = self;
-        let mut i = 0;
-        while i < s.len() {
-            t = t.put(s[i]);
-            i += 1;
-        }
-        t
+    pub fn say(mut self, s: &[u8]) -> Text {
+        let from = self.len;
+        let n = s.len().min(400 - from);
+        self.bytes[from..from + n].copy_from_slice(&s[..n]);
+        self.len = from + n;
+        self
+    }
+
+    // Another text after this one.
+    pub fn and(self, other: Text) -> Text {
+        self.say(other.as_bytes())
     }
 
     // A byte as two hexadecimal digits.
-    pub fn hex(self, x: u8) -> Text {
-        self.put(glyph(x / 16)).put(glyph(x % 16))
+    pub fn hex(mut self, x: u8) -> Text {
+        let _ = write!(self, "{x:02X}");
+        self
     }
 
     // An address as six.
-    pub fn address(self, a: u32) -> Text {
-        let high = (a / 65536 % 256) as u8;
-        let middle = (a / 256 % 256) as u8;
-        let low = (a % 256) as u8;
-        self.hex(high).hex(middle).hex(low)
+    pub fn address(mut self, a: u32) -> Text {
+        let _ = write!(self, "{:06X}", a % 0x1000000);
+        self
     }
 
-    pub fn decimal(self, x: u64) -> Text {
-        let mut digits = [0u8; 20];
-        let k = io::decimal(x, &mut digits);
-        self.say(&digits[..k])
+    pub fn decimal(mut self, x: u64) -> Text {
+        let _ = write!(self, "{x}");
+        self
     }
 
     // A number that ends at a column, if it is not too long for that.
     pub fn number(self, x: u64, column: usize) -> Text {
         let digits = Text::new().decimal(x);
-        let n = digits.n;
-        if n < column {
-            return self.pad(column - n).part(digits, 0, n);
-        }
-        self.part(digits, 0, n)
-    }
-
-    // Another text after this one.
-    pub fn and(self, other: Text) -> Text {
-        self.part(other, 0, other.n)
+        self.pad(column.saturating_sub(digits.len)).and(digits)
     }
 
     // Spaces up to a column.
     pub fn pad(self, to: usize) -> Text {
-        let mut t = self;
-        let mut i: usize = 0;
-        while i < 400 {
-            if to <= t.n {
-                return t;
-            }
-            t = t.put(b' ');
-            i += 1;
-        }
-        t
-    }
-
-    // The bytes of another text from one place up to another.
-    pub fn part(self, other: Text, from: usize, to: usize) -> Text {
-        let mut t = self;
-        let mut i = from;
-        while i < to {
-            if 399 < i {
-                return t;
-            }
-            t = t.put(other.bytes[i]);
-            i += 1;
-        }
-        t
+        (self.len..to.min(400)).fold(self, |t, _| t.put(b' '))
     }
 
     // The numbers of the bits that are set, each with a space before it.
@@ -125,111 +88,31 @@ impl Text {
         if x == 0 {
             return self.say(b" none");
         }
-        self.bit(x, 0)
-            .bit(x, 1)
-            .bit(x, 2)
-            .bit(x, 3)
-            .bit(x, 4)
-            .bit(x, 5)
-            .bit(x, 6)
-            .bit(x, 7)
+        (0..8)
+            .filter(|&n| x >> n & 1 == 1)
+            .fold(self, |t, n| t.put(b' ').put(b'0' + n))
     }
 
-    fn bit(self, x: u8, n: u8) -> Text {
-        if bits::bit(x, n) {
-            return self.put(b' ').put(glyph(n));
-        }
-        self
-    }
-
-    // OUT0 to OUT2 and INT, as an answer's byte 3 has them; nothing for NO_LEVELS.
-    pub fn levels(self, x: u8) -> Text {
-        if 15 < x {
-            return self;
-        }
+    // OUT0 to OUT2 and INT, as an answer's byte 3 has them.
+    fn levels(self, x: u8) -> Text {
         self.put(b'0' + x % 2)
             .put(b'0' + x / 2 % 2)
             .put(b'0' + x / 4 % 2)
-            .put(b' ')
-            .put(b' ')
+            .say(b"  ")
             .put(b'0' + x / 8 % 2)
     }
 
     // The text without its hexadecimal digits: that of rows which differ in numbers alone is the same.
     pub fn shape(self) -> Text {
-        let mut t = Text::new();
-        let mut i: usize = 0;
-        while i < 400 {
-            if self.n <= i {
-                return t;
-            }
-            t = t.put_shape(self.bytes[i]);
-            i += 1;
-        }
-        t
-    }
-
-    fn put_shape(self, c: u8) -> Text {
-        if is_digit(c) {
-            return self;
-        }
-        self.put(c)
-    }
-
-    pub fn is_same(self, other: Text) -> bool {
-        let mut i: usize = 0;
-        while i < 400 {
-            if self.bytes[i] != other.bytes[i] {
-                return false;
-            }
-            i += 1;
-        }
-        self.n == other.n
-    }
-
-    fn is_space(self, i: usize) -> bool {
-        if i < 400 {
-            return self.bytes[i] == b' ';
-        }
-        false
-    }
-
-    // Where a piece that starts at `from` ends, so that it fits the width: at a space if there is one.
-    fn break_at(self, from: usize, width: usize) -> usize {
-        let n = self.n;
-        if n <= from {
-            return n;
-        }
-        if n - from <= width {
-            return n;
-        }
-        let most = from + width;
-        let mut i = most;
-        while from < i {
-            if self.is_space(i) {
-                return i;
-            }
-            i -= 1;
-        }
-        most
-    }
-
-    // The next piece starts past the space that the last one ended at.
-    fn after(self, i: usize) -> usize {
-        if self.is_space(i) {
-            if i < 400 {
-                return i + 1;
-            }
-            return i;
-        }
-        i
+        self.as_bytes()
+            .iter()
+            .filter(|c| !matches!(c, b'0'..=b'9' | b'A'..=b'F'))
+            .fold(Text::new(), |t, &c| t.put(c))
     }
 
     // To standard output.
-    pub fn print(self) -> bool {
-        let bytes = self.bytes;
-        let n = self.n;
-        write_array(STDOUT, &bytes, n)
+    pub fn print(&self) -> bool {
+        io::write_all(STDOUT, self.as_bytes())
     }
 
     pub fn print_line(self) -> bool {
@@ -237,23 +120,16 @@ impl Text {
     }
 
     // To standard error.
-    pub fn complain(self) {
-        let bytes = self.bytes;
-        let n = self.n;
-        write_array(STDERR, &bytes, n);
+    pub fn complain(&self) {
+        io::write_all(STDERR, self.as_bytes());
     }
 }
 
-// The array as a slice: its length is known by its type here.
-fn write_array(fd: i32, b: &[u8; 400], n: usize) -> bool {
-    write_part(fd, b, n)
-}
-
-pub fn write_part(fd: i32, b: &[u8], n: usize) -> bool {
-    if b.len() < n {
-        return false;
+impl fmt::Write for Text {
+    fn write_str(&mut self, s: &str) -> fmt::Result {
+        *self = self.say(s.as_bytes());
+        Ok(())
     }
-    io::write_all(fd, &b[..n])
 }
 
 // What stands at the left of a row: the number of its line, and the pulses so far.
@@ -261,85 +137,69 @@ pub fn left(number: u64, pulses: u64) -> Text {
     Text::new().number(number, 5).put(b' ').number(pulses, 12)
 }
 
-// A row: what stands at its left, what was asked, the answer, the levels. Where a text is too long for its column, the row goes on below.
-pub fn print_row(left: Text, asked: Text, answer: Text, levels: u8) -> bool {
-    let a = asked.break_at(0, 27);
-    let b = answer.break_at(0, 31);
+// What of a text fits a width, up to a space if there is one, and what is left past that space.
+fn break_off(text: &[u8], width: usize) -> (&[u8], &[u8])
+    requires { 0 < width }
+    ensures shorter { length result.1.now ≤ length text.now - 1 }
+{
+    if text.len() <= width {
+        return (text, &[]);
+    }
+    match text[..width + 1].iter().rposition(|&c| c == b' ') {
+        None | Some(0) => text.split_at(width),
+        Some(space) => (&text[..space], &text[space + 1..]),
+    }
+}
+
+// A row: what stands at its left, what was asked, the answer, the levels, if they are below 16. Where a text is too long for its column, the row goes on below.
+pub fn print_row(left: Text, asked: Text, answer: Text, levels: Option<u8>) -> bool {
+    let (a, asked) = break_off(asked.as_bytes(), 27);
+    let (b, answer) = break_off(answer.as_bytes(), 31);
     let row = left
         .put(b' ')
         .pad(13)
-        .part(asked, 0, a)
+        .say(a)
         .put(b' ')
         .pad(41)
-        .part(answer, 0, b)
+        .say(b)
         .put(b' ')
-        .pad(73)
-        .levels(levels)
-        .put(b'\n');
-    if row.print() {
-        return print_rest(asked, asked.after(a), answer, answer.after(b));
-    }
-    false
+        .pad(73);
+    let row = match levels {
+        Some(x) if x < 16 => row.levels(x),
+        _ => row,
+    };
+    row.print_line() && print_rest(asked, answer)
 }
 
-fn is_done(asked: Text, a: usize, answer: Text, b: usize) -> bool {
-    if asked.n <= a {
-        return answer.n <= b;
-    }
-    false
-}
-
-// The answer's piece beside the other, with no spaces where there is none.
-fn add_answer(left: Text, answer: Text, from: usize, to: usize) -> Text {
-    if to <= from {
-        return left;
-    }
-    left.pad(41).part(answer, from, to)
-}
-
-fn print_rest(asked: Text, from: usize, answer: Text, start: usize) -> bool {
-    let mut a = from;
-    let mut b = start;
-    let mut turns: usize = 0;
-    while turns < 400 {
-        if is_done(asked, a, answer, b) {
-            return true;
-        }
-        let e = asked.break_at(a, 27);
-        let f = answer.break_at(b, 31);
-        let left = Text::new().pad(13).part(asked, a, e);
-        if !add_answer(left, answer, b, f).put(b'\n').print() {
+fn print_rest(mut asked: &[u8], mut answer: &[u8]) -> bool {
+    while !asked.is_empty() || !answer.is_empty() {
+        let (a, asked_left) = break_off(asked, 27);
+        let (b, answer_left) = break_off(answer, 31);
+        let row = Text::new().pad(13).say(a);
+        // no spaces where there is no answer
+        let row = if b.is_empty() {
+            row
+        } else {
+            row.pad(41).say(b)
+        };
+        if !row.print_line() {
             return false;
         }
-        a = asked.after(e);
-        b = answer.after(f);
-        turns += 1;
+        asked = asked_left;
+        answer = answer_left;
     }
     true
 }
 
 // A text in lines of its own below a row, each up to column 79.
 pub fn print_below(t: Text) -> bool {
-    let mut a: usize = 0;
-    let mut turns: usize = 0;
-    while turns < 400 {
-        if t.n <= a {
-            return true;
-        }
-        let e = t.break_at(a, 73);
-        if !Text::new().pad(6).part(t, a, e).put(b'\n').print() {
+    let mut text = t.as_bytes();
+    while !text.is_empty() {
+        let (piece, left) = break_off(text, 73);
+        if !Text::new().pad(6).say(piece).print_line() {
             return false;
         }
-        a = t.after(e);
-        turns += 1;
+        text = left;
     }
     true
-}
-
-// One more; no lesson is so long that it stays.
-pub fn more(n: u64) -> u64 {
-    if n < u64::MAX {
-        return n + 1;
-    }
-    n
 }

@@ -8,27 +8,26 @@ use native.Mathlib.Omega.{arith}
 use borrow.Author.Tests.{ne_eqb}
 use lib.Dec.{eqb, ltb, leb}
 use Rattle.bits.specs.Choice.{◌and◌, every}
-use Rattle.std.specs.Prelude.{if◌then◌else◌}
+use Rattle.std.specs.Bool.{then_some}
+use Rattle.std.specs.Prelude.{if◌then◌else◌, Option, Some, None}
 use Rattle.bits.proofs.Every.{alike}
 use Rattle.tape.specs.declared.Operation.{Operation}
 use Rattle.tape.specs.declared.Operation.TheVariants.{Reset, Write, Read, Intp, Gates, Requests, SlaveIntp, Acknowledge, Advance, Cycle}
-use Rattle.tape.specs.declared.Decoded.{Decoded}
-use Rattle.tape.specs.declared.Decoded.TheVariants.{Asked, Malformed}
 use Rattle.tape.specs.Records.{byte, unused, writable, readable, lines_asked, pulse_count, asked_if, decode_of}
 
 -- A record is malformed, or asks for an operation by its number and with the bytes that this operation uses.
-pub data Decodes (r : List ℕ) : Decoded → Type 0 where
-  malformed : Decodes r Malformed
-  reset : eqb (byte r 0) 0 ≡ true → Decodes r (Asked Reset)
-  write : eqb (byte r 0) 1 ≡ true → writable (byte r 1) ≡ true → Decodes r (Asked (Write (byte r 1) (byte r 2)))
-  read : eqb (byte r 0) 2 ≡ true → readable (byte r 1) ≡ true → Decodes r (Asked (Read (byte r 1)))
-  intp : eqb (byte r 0) 3 ≡ true → eqb (byte r 2 % 2) 0 ≡ true → Decodes r (Asked (Intp (byte r 2)))
-  gates : eqb (byte r 0) 3 ≡ true → ltb (byte r 2) 8 ≡ true → Decodes r (Asked (Gates (byte r 2)))
-  requests : eqb (byte r 0) 3 ≡ true → ltb (byte r 2) 16 ≡ true → Decodes r (Asked (Requests (byte r 2)))
-  slave_intp : eqb (byte r 0) 3 ≡ true → Decodes r (Asked (SlaveIntp (byte r 2)))
-  acknowledge : eqb (byte r 0) 4 ≡ true → Decodes r (Asked Acknowledge)
-  advance : eqb (byte r 0) 5 ≡ true → leb (pulse_count r) 65535 ≡ true → Decodes r (Asked (Advance (pulse_count r)))
-  cycle : eqb (byte r 0) 6 ≡ true → Decodes r (Asked (Cycle (eqb (byte r 1) 1) (byte r 2) (byte r 3)))
+pub data Decodes (r : List ℕ) : Option Operation → Type 0 where
+  malformed : Decodes r None
+  reset : eqb (byte r 0) 0 ≡ true → Decodes r (Some Reset)
+  write : eqb (byte r 0) 1 ≡ true → writable (byte r 1) ≡ true → Decodes r (Some (Write (byte r 1) (byte r 2)))
+  read : eqb (byte r 0) 2 ≡ true → readable (byte r 1) ≡ true → Decodes r (Some (Read (byte r 1)))
+  intp : eqb (byte r 0) 3 ≡ true → eqb (byte r 2 % 2) 0 ≡ true → Decodes r (Some (Intp (byte r 2)))
+  gates : eqb (byte r 0) 3 ≡ true → ltb (byte r 2) 8 ≡ true → Decodes r (Some (Gates (byte r 2)))
+  requests : eqb (byte r 0) 3 ≡ true → ltb (byte r 2) 16 ≡ true → Decodes r (Some (Requests (byte r 2)))
+  slave_intp : eqb (byte r 0) 3 ≡ true → Decodes r (Some (SlaveIntp (byte r 2)))
+  acknowledge : eqb (byte r 0) 4 ≡ true → Decodes r (Some Acknowledge)
+  advance : eqb (byte r 0) 5 ≡ true → leb (pulse_count r) 65535 ≡ true → Decodes r (Some (Advance (pulse_count r)))
+  cycle : eqb (byte r 0) 6 ≡ true → Decodes r (Some (Cycle (eqb (byte r 1) 1) (byte r 2) (byte r 3)))
 
 -- One of two, by a test that is known on each side.
 pub either : {A : Type 0} (P : A → Type 0) (q : Bool) {a b : A} → (q ≡ true → P a) → (q ≡ false → P b) → P (if q then a else b)
@@ -37,7 +36,7 @@ either P false f g = g refl
 
 module _ (r : List ℕ) where
   -- an operation that fits by two tests
-  both : (p q : Bool) {o : Operation} → (q ≡ true → Decodes r (Asked o)) → Decodes r (asked_if (p and q) o)
+  both : (p q : Bool) {o : Operation} → (q ≡ true → Decodes r (Some o)) → Decodes r (asked_if (p and q) o)
   both true true f = f refl
   both true false f = malformed
   both false q f = malformed
@@ -72,31 +71,39 @@ module _ (r : List ℕ) where
       (λ o. both (unused r 4 4) (leb (byte r 1) 1) (λ _. cycle o))
       (λ _. malformed)))))))
 
-  -- past 3 there are the operations 4 to 6
-  pub unknown : byte r 0 ≢ 4 → byte r 0 ≢ 5 → byte r 0 ≢ 6 → 3 < byte r 0 → decode_of r ≡ Malformed
+  -- there are the operations 0 to 6
+  pub unknown : 6 < byte r 0 → decode_of r ≡ None
   unfolding decode_of
-  unknown n4 n5 n6 h =
+  unknown h =
       let n0 : byte r 0 ≢ 0 = omega (arith, h) in
       let n1 : byte r 0 ≢ 1 = omega (arith, h) in
       let n2 : byte r 0 ≢ 2 = omega (arith, h) in
       let n3 : byte r 0 ≢ 3 = omega (arith, h) in
+      let n4 : byte r 0 ≢ 4 = omega (arith, h) in
+      let n5 : byte r 0 ≢ 5 = omega (arith, h) in
+      let n6 : byte r 0 ≢ 6 = omega (arith, h) in
       rw (ne_eqb _ _ n0, ne_eqb _ _ n1, ne_eqb _ _ n2, ne_eqb _ _ n3, ne_eqb _ _ n4, ne_eqb _ _ n5, ne_eqb _ _ n6)
 
--- A read asks for a port that is open to reads; so where it is the timer's, it is a counter's.
-abbrev Open : Decoded → Type 0
-Open Malformed = Unit
-Open (Asked Reset) = Unit
-Open (Asked (Write p x)) = Unit
-Open (Asked (Read p)) = readable p ≡ true
-Open (Asked (Intp l)) = Unit
-Open (Asked (Gates l)) = Unit
-Open (Asked (Requests l)) = Unit
-Open (Asked (SlaveIntp l)) = Unit
-Open (Asked Acknowledge) = Unit
-Open (Asked (Advance n)) = Unit
-Open (Asked (Cycle e x y)) = Unit
+-- What is asked for where a test holds, in the words of the definitions.
+pub told : (q : Bool) (o : Operation) → then_some q o ≡ asked_if q o
+told true o = refl
+told false o = refl
 
-opened : (r : List ℕ) (d : Decoded) → Decodes r d → Open d
+-- A read asks for a port that is open to reads; so where it is the timer's, it is a counter's.
+abbrev Open : Option Operation → Type 0
+Open None = Unit
+Open (Some Reset) = Unit
+Open (Some (Write p x)) = Unit
+Open (Some (Read p)) = readable p ≡ true
+Open (Some (Intp l)) = Unit
+Open (Some (Gates l)) = Unit
+Open (Some (Requests l)) = Unit
+Open (Some (SlaveIntp l)) = Unit
+Open (Some Acknowledge) = Unit
+Open (Some (Advance n)) = Unit
+Open (Some (Cycle e x y)) = Unit
+
+opened : (r : List ℕ) (d : Option Operation) → Decodes r d → Open d
 opened r _ malformed = tt
 opened r _ (reset _) = tt
 opened r _ (write _ _) = tt
@@ -113,7 +120,7 @@ control : (p : ℕ) → p < 256 → (readable p and eqb (p / 16) 1 and eqb (p % 
 unfolding readable every
 control p h = alike (λ p. readable p and eqb (p / 16) 1 and eqb (p % 4) 3) (λ p. false) 256 tt p h
 
-pub read_counter : (r : List ℕ) (p : ℕ) → p < 256 → decode_of r ≡ Asked (Read p) → eqb (p / 16) 1 ≡ true → eqb (p % 4) 3 ≡ false
+pub read_counter : (r : List ℕ) (p : ℕ) → p < 256 → decode_of r ≡ Some (Read p) → eqb (p / 16) 1 ≡ true → eqb (p % 4) 3 ≡ false
 read_counter r p h e chip =
     let o : readable p ≡ true = subst Open e (opened r (decode_of r) (decodes r)) in
     third (readable p) (eqb (p / 16) 1) (eqb (p % 4) 3) o chip (control p h)

@@ -1,3 +1,4 @@
 pub mod Decodes
 pub mod Kept
+pub mod Made
 pub mod Ports

@@ -1,10 +1,8 @@
 -- The records of a tape: eight bytes, of which byte 0 is the operation.
-use Rattle.std.specs.Prelude.{ℕ, zero, suc, ◌+◌, ◌*◌, ◌%◌, Bool, true, false, not, List, eqb, ltb, leb, get_or, if◌then◌else◌}
+use Rattle.std.specs.Prelude.{ℕ, zero, suc, ◌+◌, ◌*◌, ◌%◌, Bool, true, false, not, List, eqb, ltb, leb, get_or, if◌then◌else◌, Option, Some, None}
 use Rattle.bits.specs.Choice.{◌and◌, ◌or◌}
 use Rattle.tape.specs.declared.Operation.{Operation}
 use Rattle.tape.specs.declared.Operation.TheVariants.{Reset, Write, Read, Intp, Gates, Requests, SlaveIntp, Acknowledge, Advance, Cycle}
-use Rattle.tape.specs.declared.Decoded.{Decoded}
-use Rattle.tape.specs.declared.Decoded.TheVariants.{Asked, Malformed}
 
 -- The bytes of a cut record wait for the next call. There is room for seven of them, whatever their length is said to be.
 abbrev pub held_of : ℕ → ℕ
@@ -41,18 +39,18 @@ readable p =
     icu_port p or (timer_port p and not (eqb p 19)) or (dma_port p and not (eqb p 32) and not (eqb p 39)) or slave_port p
 
 -- An operation, asked for by a record that fits; a record that doesn't is malformed.
-abbrev pub asked_if : Bool → Operation → Decoded
-asked_if fits o = if fits then Asked o else Malformed
+abbrev pub asked_if : Bool → Operation → Option Operation
+asked_if fits o = if fits then Some o else None
 
 -- Operation 3: group 0 is INTP with bits 1 to 7, group 1 the gates with bits 0 to 2, group 2 the DMA requests with bits 0 to 3, group 3 the slave's lines
 -- with bits 0 to 7.
-unfoldable pub lines_asked : ℕ → ℕ → Decoded
+unfoldable pub lines_asked : ℕ → ℕ → Option Operation
 lines_asked group levels =
     if eqb group 0 then asked_if (eqb (levels % 2) 0) (Intp levels)
     else if eqb group 1 then asked_if (ltb levels 8) (Gates levels)
     else if eqb group 2 then asked_if (ltb levels 16) (Requests levels)
-    else if eqb group 3 then Asked (SlaveIntp levels)
-    else Malformed
+    else if eqb group 3 then Some (SlaveIntp levels)
+    else None
 
 -- Operation 5 counts its pulses in bytes 4 to 7, little end first.
 unfoldable pub pulse_count : List ℕ → ℕ
@@ -60,16 +58,16 @@ pulse_count r = byte r 4 + byte r 5 * 256 + byte r 6 * 65536 + byte r 7 * 167772
 
 -- The operations. Each has a line: its number, the bytes that it does not use with what else must hold, and what it asks for by the bytes that it
 -- uses. Any other number is malformed.
-unfoldable pub decode_of : List ℕ → Decoded
+unfoldable pub decode_of : List ℕ → Option Operation
 decode_of r =
     if eqb (byte r 0) 0 then asked_if (unused r 1 7) Reset
     else if eqb (byte r 0) 1 then asked_if (unused r 3 5 and writable (byte r 1)) (Write (byte r 1) (byte r 2))
     else if eqb (byte r 0) 2 then asked_if (unused r 2 6 and readable (byte r 1)) (Read (byte r 1))
-    else if eqb (byte r 0) 3 then (if unused r 3 5 then lines_asked (byte r 1) (byte r 2) else Malformed)
+    else if eqb (byte r 0) 3 then (if unused r 3 5 then lines_asked (byte r 1) (byte r 2) else None)
     else if eqb (byte r 0) 4 then asked_if (unused r 1 7) Acknowledge
     else if eqb (byte r 0) 5 then asked_if (unused r 1 3 and leb (pulse_count r) 65535) (Advance (pulse_count r))
     else if eqb (byte r 0) 6 then asked_if (unused r 4 4 and leb (byte r 1) 1) (Cycle (eqb (byte r 1) 1) (byte r 2) (byte r 3))
-    else Malformed
+    else None
 
 -- Writes, reads and acknowledges need the bus, which a served DMA channel has.
 abbrev pub uses_bus : Operation → Bool

@@ -4,13 +4,11 @@ use mathlib.Core.List.{List}
 use Prim.Native.Nat.{ℕ}
 use lib.Seq.{set-get_or}
 use lib.Dec.{eqb}
-use Rattle.std.specs.Prelude.{if◌then◌else◌}
+use Rattle.std.specs.Prelude.{Result, Ok, Err, if◌then◌else◌}
 use Rattle.timer.specs.declared.Counter.{Counter}
 use Rattle.timer.specs.declared.Timer.{Timer}
-use Rattle.timer.specs.declared.Wrote.{Wrote}
-use Rattle.timer.specs.declared.Wrote.TheVariants.{Taken, Unset, Unbuilt, One}
-use Rattle.timer.specs.declared.Shown.{Shown}
-use Rattle.timer.specs.declared.Shown.TheVariants.{Byte, Modeless}
+use Rattle.timer.specs.declared.Refusal.{Refusal}
+use Rattle.timer.specs.declared.Refusal.TheVariants.{NotThere, OutOfTurn, NotBuilt, TooSmall}
 use Rattle.timer.specs.Ports.{Answer, refused, told_wrote, told_shown}
 use Rattle.timer.specs.Timer.{at, blank, written, got, wrote_by, got_by}
 
@@ -23,32 +21,40 @@ pub got_back : (t : Timer) (n s : ℕ) → got_by t n (refused s (at t n)) ≡ g
 unfolding got_by
 got_back t n s = ap (λ (l : List Counter). got s 0 (record { counters = l })) (set-get_or t.counters n blank)
 
--- The enum's answer can be read back from the status and the values.
-abbrev wrote_as : Answer → Wrote
-wrote_as a =
-    if eqb a.status 0 then Taken a.counter
-    else if eqb a.status 3 then Unset
-    else if eqb a.status 4 then Unbuilt
-    else One
+-- The program's answer can be read back from the status and the values.
+abbrev refusal_as : ℕ → Refusal
+refusal_as n =
+    if eqb n 2 then NotThere
+    else if eqb n 3 then OutOfTurn
+    else if eqb n 4 then NotBuilt
+    else TooSmall
 
-wrote_again : (c : Counter) (r : Wrote) → wrote_as (told_wrote c r) ≡ r
-unfolding told_wrote
-wrote_again c (Taken d) = refl
-wrote_again c Unset = refl
-wrote_again c Unbuilt = refl
-wrote_again c One = refl
+abbrev answer_as : {A : Type 0} → A → ℕ → Result A Refusal
+answer_as a n = if eqb n 0 then Ok a else Err (refusal_as n)
 
-abbrev shown_as : Answer → Shown
-shown_as a = if eqb a.status 0 then Byte a.byte a.counter else Modeless
+abbrev wrote_as : Answer → Result Counter Refusal
+wrote_as a = answer_as a.counter a.status
 
-shown_again : (c : Counter) (r : Shown) → shown_as (told_shown c r) ≡ r
-unfolding told_shown
-shown_again c (Byte b d) = refl
-shown_again c Modeless = refl
+wrote_again : (c : Counter) (r : Result Counter Refusal) → wrote_as (told_wrote c r) ≡ r
+wrote_again c (Ok d) = refl
+wrote_again c (Err NotThere) = refl
+wrote_again c (Err OutOfTurn) = refl
+wrote_again c (Err NotBuilt) = refl
+wrote_again c (Err TooSmall) = refl
+
+abbrev shown_as : Answer → Result (ℕ × Counter) Refusal
+shown_as a = answer_as (a.byte, a.counter) a.status
+
+shown_again : (c : Counter) (r : Result (ℕ × Counter) Refusal) → shown_as (told_shown c r) ≡ r
+shown_again c (Ok (b, d)) = refl
+shown_again c (Err NotThere) = refl
+shown_again c (Err OutOfTurn) = refl
+shown_again c (Err NotBuilt) = refl
+shown_again c (Err TooSmall) = refl
 
 -- So a contract that speaks through `told_wrote` or `told_shown` allows one result only.
-pub one_wrote : (c : Counter) (r s : Wrote) → told_wrote c r ≡ told_wrote c s → r ≡ s
+pub one_wrote : (c : Counter) (r s : Result Counter Refusal) → told_wrote c r ≡ told_wrote c s → r ≡ s
 one_wrote c r s e = sym (wrote_again c r) ∙ ap wrote_as e ∙ wrote_again c s
 
-pub one_shown : (c : Counter) (r s : Shown) → told_shown c r ≡ told_shown c s → r ≡ s
+pub one_shown : (c : Counter) (r s : Result (ℕ × Counter) Refusal) → told_shown c r ≡ told_shown c s → r ≡ s
 one_shown c r s e = sym (shown_again c r) ∙ ap shown_as e ∙ shown_again c s

@@ -3,19 +3,16 @@ use mathlib.Core.Bool.{Bool, true, false, true≢false}
 use mathlib.Core.Path.{◌≡◌, refl, sym, ap, ◌∙◌}
 use mathlib.Core.List.{List}
 use Prim.Native.Nat.{ℕ, ◌/◌, ◌%◌}
-use borrow.Author.Tests.{ne_eqb}
 use lib.Dec.{eqb}
 use lib.ListN.{get_or, set, get_or-map}
 use lib.Seq.{set-get_or, map-set_same}
 use Rattle.std.specs.Prelude.{if◌then◌else◌}
 use Rattle.timer.specs.Fields.{latched_is, second_is}
 use Rattle.timer.specs.Modes.{moded}
-use Rattle.timer.specs.Ports.{Answer, refused, read_as, told_shown, held, read_of, seen_as, seen_of}
+use Rattle.timer.specs.Ports.{Answer, refused, read_as, held, read_of, Seen, seen_as, seen_of}
 use Rattle.timer.specs.Timer.{at, blank, counter_is, got, got_by, reads_of}
 use Rattle.timer.specs.declared.Counter.{Counter}
 use Rattle.timer.specs.declared.Timer.{Timer}
-use Rattle.timer.specs.declared.Seen.{Seen}
-use Rattle.timer.specs.declared.Shown.TheVariants.{Byte, Modeless}
 
 -- What was seen, with the counter put back.
 abbrev pub back : Counter → Seen → Answer
@@ -59,17 +56,6 @@ module _ (c : Counter) where
   pub unread : eqb (read_of c).status 0 ≡ false → read_of c ≡ refused 3 c
   unfolding read_of
   unread = unread_by c (held c % 256) (held c / 256) (moded c) (eqb c.format 1) (eqb c.format 2) c.second
-
-  -- the same as the enum's answer: a byte with the counter put back, or none
-  pub shown : (s : Seen) → s ≡ seen_of c → s.status ≡ 0
-      → told_shown c (Byte s.byte (back c s).counter) ≡ read_of c
-  unfolding told_shown
-  shown s e z =
-      ap (λ (n : ℕ). record { status = n; byte = s.byte; counter = (back c s).counter }) (sym z) ∙ put_back s e
-
-  pub hidden : (s : Seen) → s ≡ seen_of c → (s.status ≡ 0 → ⊥) → told_shown c Modeless ≡ read_of c
-  unfolding told_shown seen_of
-  hidden s e z = sym (unread (ap (λ (x : Seen). eqb x.status 0) (sym e) ∙ ne_eqb _ _ z))
 
 -- The timer's answer by what was seen of counter n, and with no status but 0 the timer is as it was.
 module _ (t : Timer) (p n : ℕ) (en : n ≡ p % 4) (counter : eqb (p % 4) 3 ≡ false) (s : Seen) (es : s ≡ seen_of (at t n)) where

@@ -45,6 +45,18 @@ by_mode P a b c d e f g (suc (suc (suc (suc (suc (suc k)))))) = past (suc (suc (
         )
         (g m l)
 
+-- No minimum is above 65,536.
+pub least_small : (m : ℕ) → (mode_of m).least ≤ 65536
+least_small = by_mode (λ _ q. q.least ≤ 65536) (omega arith) (omega arith) (omega arith) (omega arith) (omega arith) (omega arith) (λ _ _. omega arith)
+
+pub unset : (b : Bool) → not b ≡ true → b ≡ false
+unset true e = let z : false ≡ true = e in cc
+unset false e = refl
+
+pub set : (b : Bool) → not b ≡ false → b ≡ true
+set true e = refl
+set false e = let z : true ≡ false = e in cc
+
 -- The value that a pulse leaves: as it was, one or two less, the last complete count, or the even one below it.
 pub data Counts (c : Counter) : ℕ → Type 0 where
   stays : Counts c c.value

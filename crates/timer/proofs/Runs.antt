@@ -6,6 +6,7 @@ use native.Mathlib.Nat.{zero-add, add-zero, add_assoc}
 use native.Mathlib.Numerals.{add-one}
 use native.Mathlib.Omega.{arith}
 use lib.Dec.{eqb}
+use mir.Val.{bool_byte}
 use Rattle.bits.specs.Choice.{◌and◌, ◌or◌}
 use Rattle.std.specs.Prelude.{if◌then◌else◌}
 use Rattle.bits.specs.Bits.{less}
@@ -20,9 +21,9 @@ use Rattle.timer.specs.Mode5.{pulse5}
 use Rattle.timer.specs.Modes.{mode_of}
 use Rattle.timer.specs.Pulse.{pulse_of}
 use Rattle.timer.specs.Run.{rise_of, ran_on, ran_of}
-use Rattle.timer.specs.Steady.{Moving, moved, fall0, fall2, fall3, fall4, moving, fell_on, fell_of, fallen_to, fell_by, rested, steady0, steady1, steady2, steady_of}
+use Rattle.timer.specs.Steady.{rose, moved, fall0, fall2, fall3, fall4, moving, fell_of, fallen_to, fell_by, rested, steady0, steady1, steady2, steady_of}
 use Rattle.timer.specs.declared.Counter.{Counter}
-use Rattle.timer.specs.declared.Fall.{Fall}
+use Rattle.timer.specs.declared.Moving.{Moving}
 use Rattle.timer.specs.declared.Ran.{Ran}
 
 -- what holds of both, each where its test says so, holds of the one chosen
@@ -30,14 +31,22 @@ pick : {A : Type 0} {x y : A} (P : A → Type 0) (b : Bool) → (b ≡ true → 
 pick P true f g = f refl
 pick P false f g = g refl
 
--- a level that stays does not rise, nor one that falls
+-- a level that stays does not rise
 pub no_rise : (level : Bool) → rise_of level level ≡ 0
 no_rise true = refl
 no_rise false = refl
 
-pub no_rise_low : (level : Bool) → rise_of level false ≡ 0
-no_rise_low true = refl
-no_rise_low false = refl
+one_byte : (was now : Bool) → bool_byte (not was and now) ≡ rise_of was now
+one_byte true now = refl
+one_byte false true = refl
+one_byte false false = refl
+
+pub byte_small : (b : Bool) → bool_byte b ≤ 1
+byte_small true = omega arith
+byte_small false = omega arith
+
+pub same_ran : (c d : Counter) (n k : ℕ) → c ≡ d → n ≡ k → ◌≡◌ {A = Ran} (record { counter = c; rises = n }) (record { counter = d; rises = k })
+same_ran c d n k e h = rw (e, h)
 
 -- The first pulse apart: the others are those of the counter that it leaves.
 abbrev pub ran_first : Counter → Ran → Ran
@@ -58,12 +67,12 @@ rests c zero still = refl
 rests c (suc n) still = rw (← rests c n still, still, no_rise c.out)
 
 -- A counter of which a pulse moves value, OUT and `odd` alone, by a rule, falls by that rule.
-abbrev moved_to : Moving → Counter → Counter
-moved_to m c = odd_is m.odd (out_is m.out (value_is m.value c))
+abbrev pub moved_to : Counter → Moving → Counter
+moved_to c m = odd_is m.odd (out_is m.out (value_is m.value c))
 
 module _ (fall : Moving → Moving) where
-  module _ (c : Counter) (by : (m : Moving) → pulse_of (moved_to m c) ≡ moved_to (fall m) c) where
-    falls_from : (m : Moving) (n : ℕ) → fallen_to c (fell_of fall m n) ≡ ran_of (moved_to m c) n
+  module _ (c : Counter) (by : (m : Moving) → pulse_of (moved_to c m) ≡ moved_to c (fall m)) where
+    falls_from : (m : Moving) (n : ℕ) → fallen_to c (fell_of fall m n) ≡ ran_of (moved_to c m) n
     unfolding ran_of fell_of
     falls_from m zero = refl
     falls_from m (suc n) = rw (← falls_from m n, by (moving (fell_of fall m n)))
@@ -71,17 +80,18 @@ module _ (fall : Moving → Moving) where
     falls : (n : ℕ) → Runs c n (fell_by fall c n)
     falls n = falls_from (moved c.value c.out c.odd) n
 
-  -- One pulse more.
-  pub on : (m : Moving) (n : ℕ) (f g : Fall) → f ≡ fell_of fall m n → g ≡ fell_on fall f → g ≡ fell_of fall m (n + 1)
-  unfolding fell_of
-  on m n f g e h = rw add-one (h ∙ ap (fell_on fall) e)
-
-  -- Where OUT once high stays high, it rises once at most, and a loop need not count.
   module _ (m : Moving) where
+    -- One pulse more: what moves goes by the rule, and a rise is told by 1.
     pub moved_on : (n : ℕ) (k l : Moving) → k ≡ moving (fell_of fall m n) → l ≡ fall k → l ≡ moving (fell_of fall m (n + 1))
     unfolding fell_of
     moved_on n k l e h = rw add-one (h ∙ ap fall e)
 
+    pub told_on : (n : ℕ) (k l : Moving) (b : Bool) (r : ℕ) → k ≡ moving (fell_of fall m n) → l ≡ fall k → b ≡ rose k l → r ≡ (fell_of fall m n).rises
+        → r + bool_byte b ≡ (fell_of fall m (n + 1)).rises
+    unfolding fell_of
+    told_on n k l b r e h w q = rw (add-one, q, w, h, e) (ap (λ (x : ℕ). (fell_of fall m n).rises + x) (one_byte _ _))
+
+    -- Where OUT once high stays high, it rises once at most, and a loop need not count.
     module _ (stays : (k : Moving) → k.out ≡ true → (fall k).out ≡ true) where
       still_high : (n : ℕ) → m.out ≡ true → (fell_of fall m n).out ≡ true
       unfolding fell_of
@@ -100,15 +110,15 @@ module _ (fall : Moving → Moving) where
           by false false true p q = refl
           by false false false p q = refl
 
-      abbrev counted_up : Moving → ℕ → Fall
-      counted_up k r = record { value = k.value; out = k.out; odd = k.odd; rises = r }
-
-      pub fell_once : (n : ℕ) (k : Moving) (r : ℕ) → k ≡ moving (fell_of fall m n) → r ≡ rise_of m.out k.out → counted_up k r ≡ fell_of fall m n
-      fell_once n k r e h =
-          rw (h, e) (ap (counted_up (moving (fell_of fall m n))) (sym (rises_once n)))
-
-pub stays0 : (k : Moving) → k.out ≡ true → (fall0 k).out ≡ true
+stays0 : (k : Moving) → k.out ≡ true → (fall0 k).out ≡ true
 stays0 k e = pick (λ (x : Moving). x.out ≡ true) (eqb (less k.value) 0) (λ z. refl) (λ z. e)
+
+-- n pulses of modes 0 and 1, by the counter that they leave
+pub fell_once : (c : Counter) (n : ℕ) (k : Counter) (r : ℕ) → k ≡ (fell_by fall0 c n).counter → r ≡ rise_of c.out k.out
+    → ◌≡◌ {A = Ran} (record { counter = k; rises = r }) (fell_by fall0 c n)
+fell_once c n k r e h =
+    let start = moved c.value c.out c.odd in
+    rw (h, e, ← rises_once fall0 start stays0 n)
 
 -- Something stands that the next pulse uses up: a count that a pulse transfers, a trigger, or a strobe that ends though nothing counts.
 abbrev pends : Counter → Bool
@@ -127,7 +137,7 @@ abbrev Settled : Counter → Type 0
 Settled c = pends c ≡ false
 
 -- a counter moved to the one of two places that a test says
-to_either : (c : Counter) (b : Bool) {x y : Moving} {p q : Counter} → p ≡ moved_to x c → q ≡ moved_to y c → (if b then p else q) ≡ moved_to (if b then x else y) c
+to_either : (c : Counter) (b : Bool) {x y : Moving} {p q : Counter} → p ≡ moved_to c x → q ≡ moved_to c y → (if b then p else q) ≡ moved_to c (if b then x else y)
 to_either c true d e = d
 to_either c false d e = e
 
@@ -159,7 +169,7 @@ module _ (c : Counter) (f : c.full ≡ true) where
         (λ h.
         falls fall0 c
         (λ v.
-        let d = moved_to v c in
+        let d = moved_to c v in
         let e : pulse_of d ≡ counted 0 true (less v.value) d = rw (f, m, p, g, h) in
         e ∙ to_either c (eqb (less v.value) 0) refl refl)
         n))
@@ -183,7 +193,7 @@ module _ (c : Counter) (f : c.full ≡ true) where
           (λ p.
           falls fall0 c
           (λ v.
-          let d = moved_to v c in
+          let d = moved_to c v in
           let e : pulse_of d ≡ counted 0 true (less v.value) d = rw (f, m0, m, t, p) in
           e ∙ to_either c (eqb (less v.value) 0) refl refl)
           n)
@@ -211,7 +221,7 @@ module _ (c : Counter) (f : c.full ≡ true) where
             (λ g.
             falls (fall2 c.count) c
             (λ v.
-            let d = moved_to v c in
+            let d = moved_to c v in
             let e : pulse_of d ≡ on2 d = rw (f, m0, m1, m, q.0, q.1, g) in
             e ∙ to_either c (eqb v.value 1) refl (to_either c (eqb (less v.value) 1) refl refl))
             n)
@@ -239,7 +249,7 @@ module _ (c : Counter) (f : c.full ≡ true) where
               (λ g.
               falls (fall3 c.count) c
               (λ v.
-              let d = moved_to v c in
+              let d = moved_to c v in
               let e : pulse_of d ≡ on3 d = rw (f, m0, m1, m2, m, q.0, q.1, g) in
               e ∙ to_either c (eqb v.value (end_of_half v.out v.odd)) refl refl)
               n)
@@ -264,7 +274,7 @@ module _ (c : Counter) (f : c.full ≡ true) where
                 (λ g.
                 falls fall4 c
                 (λ v.
-                let d = moved_to v c in
+                let d = moved_to c v in
                 let e : pulse_of d ≡ counted 0 false (less v.value) (out_is true d) = rw (f, m0, m1, m2, m3, m, q.0, g) in
                 e ∙ to_either c (eqb (less v.value) 0) refl refl)
                 n)
@@ -294,7 +304,7 @@ module _ (c : Counter) (f : c.full ≡ true) where
                   (λ p.
                   falls fall4 c
                   (λ v.
-                  let d = moved_to v c in
+                  let d = moved_to c v in
                   let e : pulse_of d ≡ counted 0 false (less v.value) (out_is true d) = rw (f, m0, m1, m2, m3, m4, m, q.0, p) in
                   e ∙ to_either c (eqb (less v.value) 0) refl refl)
                   n)

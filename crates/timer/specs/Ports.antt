@@ -1,14 +1,12 @@
 -- One counter at its ports: reset, control word, mode word, count bytes, latch, reads.
-use Rattle.std.specs.Prelude.{ℕ, ◌+◌, ◌*◌, ◌%◌, ◌/◌, true, false, not, eqb, ltb, if◌then◌else◌}
+use Rattle.std.specs.Prelude.{ℕ, Bool, Result, Ok, Err, ◌+◌, ◌*◌, ◌%◌, ◌/◌, true, false, not, eqb, ltb, if◌then◌else◌}
 use Rattle.bits.specs.Choice.{◌or◌}
 use Rattle.timer.specs.Fields.{mode_is, format_is, count_is, full_is, pending_is, trigger_is, half_is, low_is, latched_is, latch_is, second_is, out_is}
 use Rattle.timer.specs.Modes.{mode_of, moded}
 use Rattle.timer.specs.declared.Counter.{Counter}
-use Rattle.timer.specs.declared.Wrote.{Wrote}
-use Rattle.timer.specs.declared.Wrote.TheVariants.{Taken, Unset, Unbuilt, One}
-use Rattle.timer.specs.declared.Seen.{Seen}
+use Rattle.timer.specs.declared.Refusal.{Refusal}
+use Rattle.timer.specs.declared.Refusal.TheVariants.{NotThere, OutOfTurn, NotBuilt, TooSmall}
 use Rattle.timer.specs.declared.Shown.{Shown}
-use Rattle.timer.specs.declared.Shown.TheVariants.{Byte, Modeless}
 
 -- Reset: no mode (255) and no format, the counter 0, OUT low, GATE high, nothing under way.
 abbrev pub reset_of : Counter
@@ -44,16 +42,21 @@ done c = record { status = 0; byte = 0; counter = c }
 abbrev pub refused : ℕ → Counter → Answer
 refused s c = record { status = s; byte = 0; counter = c }
 
--- The status and the values of each answer that the program gives: out of turn is 3, not built 4, a count below the minimum 6.
-unfoldable pub told_wrote : Counter → Wrote → Answer
-told_wrote c (Taken d) = done d
-told_wrote c Unset = refused 3 c
-told_wrote c Unbuilt = refused 4 c
-told_wrote c One = refused 6 c
+-- The numbers of the refusals: the control port is not open to reads 2, out of turn 3, not built 4, a count below the minimum 6.
+abbrev pub status_of : Refusal → ℕ
+status_of NotThere = 2
+status_of OutOfTurn = 3
+status_of NotBuilt = 4
+status_of TooSmall = 6
 
-unfoldable pub told_shown : Counter → Shown → Answer
-told_shown c (Byte b d) = record { status = 0; byte = b; counter = d }
-told_shown c Modeless = refused 3 c
+-- The status and the values of each answer that the program gives.
+abbrev pub told_wrote : Counter → Result Counter Refusal → Answer
+told_wrote c (Ok d) = done d
+told_wrote c (Err e) = refused (status_of e) c
+
+abbrev pub told_shown : Counter → Result (ℕ × Counter) Refusal → Answer
+told_shown c (Ok (b, d)) = record { status = 0; byte = b; counter = d }
+told_shown c (Err e) = refused (status_of e) c
 
 -- The control word: D7-D6 the counter, D5-D4 latch or format, D3-D1 the mode, D0 BCD.
 abbrev pub SC : ℕ → ℕ
@@ -147,8 +150,19 @@ read_of c =
     else refused 3 c
 
 -- A read by what it shows, with the latch and the reading place after it. It changes nothing else of the counter.
+pub record Seen : Type 0 where
+  pub status : ℕ
+  pub byte : ℕ
+  pub latched : Bool
+  pub second : Bool
+
 abbrev pub seen_as : Answer → Seen
 seen_as a = record { status = a.status; byte = a.byte; latched = a.counter.latched; second = a.counter.second }
 
 unfoldable pub seen_of : Counter → Seen
 seen_of c = seen_as (read_of c)
+
+-- The same of what the program shows; a refusal leaves both fields as they were.
+abbrev pub told_seen : Counter → Result Shown Refusal → Seen
+told_seen c (Ok s) = record { status = 0; byte = s.byte; latched = s.latched; second = s.second }
+told_seen c (Err e) = record { status = status_of e; byte = 0; latched = c.latched; second = c.second }

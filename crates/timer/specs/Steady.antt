@@ -2,19 +2,15 @@
 -- value, OUT and, in mode 3, whether the count was odd. Run.antt has the rule; proofs/Runs.antt shows that this comes to the same.
 use Rattle.std.specs.Prelude.{ℕ, zero, suc, ◌+◌, ◌-◌, ◌%◌, Bool, true, false, not, eqb, if◌then◌else◌}
 use Rattle.bits.specs.Bits.{less}
+use Rattle.bits.specs.Choice.{◌and◌}
 use Rattle.timer.specs.Fields.{value_is, out_is, odd_is}
 use Rattle.timer.specs.Mode3.{end_of_half}
 use Rattle.timer.specs.Run.{rise_of}
 use Rattle.timer.specs.declared.Counter.{Counter}
-use Rattle.timer.specs.declared.Fall.{Fall}
+use Rattle.timer.specs.declared.Moving.{Moving}
 use Rattle.timer.specs.declared.Ran.{Ran}
 
 -- What moves.
-pub record Moving : Type 0 where
-  pub value : ℕ
-  pub out : Bool
-  pub odd : Bool
-
 abbrev pub moved : ℕ → Bool → Bool → Moving
 moved v level odd = record { value = v; out = level; odd = odd }
 
@@ -43,6 +39,13 @@ fall4 m =
     if eqb (less m.value) 0 then moved (less m.value) false m.odd
     else moved (less m.value) true m.odd
 
+-- What n pulses make of what moves, and how many of them made OUT rise.
+pub record Fall : Type 0 where
+  pub value : ℕ
+  pub out : Bool
+  pub odd : Bool
+  pub rises : ℕ
+
 -- What moves, of a fall.
 abbrev pub moving : Fall → Moving
 moving f = moved f.value f.out f.odd
@@ -56,6 +59,10 @@ fell_on fall f =
       odd = (fall (moving f)).odd;
       rises = f.rises + rise_of f.out (fall (moving f)).out;
     }
+
+-- Whether OUT rose.
+abbrev pub rose : Moving → Moving → Bool
+rose m next = not m.out and next.out
 
 -- n pulses.
 unfoldable pub fell_of : (Moving → Moving) → Moving → ℕ → Fall

@@ -1,12 +1,11 @@
 -- The timer: three counters on one clock, its four ports, its gates and its outputs.
-use Rattle.std.specs.Prelude.{ℕ, ◌+◌, ◌%◌, false, [], ◌∷◌, eqb, get_or, set, if◌then◌else◌}
+use Rattle.std.specs.Prelude.{ℕ, Result, Ok, Err, ◌+◌, ◌%◌, false, [], ◌∷◌, eqb, get_or, set, if◌then◌else◌}
 use Rattle.bits.specs.Bits.{bit_of, weighed}
-use Rattle.timer.specs.Ports.{reset_of, Answer, SC, control_of, write_of, read_of}
+use Rattle.timer.specs.Ports.{reset_of, Answer, status_of, SC, control_of, write_of, read_of}
 use Rattle.timer.specs.Pulse.{pulse_of, gate_of}
 use Rattle.timer.specs.declared.Counter.{Counter}
 use Rattle.timer.specs.declared.Timer.{Timer}
-use Rattle.timer.specs.declared.Written.{Written}
-use Rattle.timer.specs.declared.Got.{Got}
+use Rattle.timer.specs.declared.Refusal.{Refusal}
 
 -- What stands where there is no counter; no rule asks for it.
 abbrev pub blank : Counter
@@ -44,11 +43,29 @@ unfoldable pub resets_of : Timer
 resets_of = three reset_of reset_of reset_of
 
 -- The answer of a port: the status, the byte of a read (zero where none is), the timer afterwards.
+pub record Written : Type 0 where
+  pub status : ℕ
+  pub timer : Timer
+
+pub record Got : Type 0 where
+  pub status : ℕ
+  pub byte : ℕ
+  pub timer : Timer
+
 abbrev pub written : ℕ → Timer → Written
 written s t = record { status = s; timer = t }
 
 abbrev pub got : ℕ → ℕ → Timer → Got
 got s b t = record { status = s; byte = b; timer = t }
+
+-- What the program gives. A refusal leaves the timer as it was.
+abbrev pub written_as : Timer → Result Timer Refusal → Written
+written_as t (Ok after) = written 0 after
+written_as t (Err e) = written (status_of e) t
+
+abbrev pub got_as : Timer → Result (ℕ × Timer) Refusal → Got
+got_as t (Ok (b, after)) = got 0 b after
+got_as t (Err e) = got (status_of e) 0 t
 
 -- What counter n answers, as the timer's answer: the other counters stay.
 unfoldable pub wrote_by : Timer → ℕ → Answer → Written

@@ -1,8 +1,10 @@
 // The 71054: three counters on one clock, in six modes, binary; the multiple latch and BCD are not built.
 #![tactic(auto)]
 
-ghost use Rattle.std.specs.Prelude.{◌≡◌, ◌≤◌, ◌<◌, ltb};
-ghost use Rattle.timer.specs.Shared.{transferred};
+ghost use Rattle.std.specs.Prelude.{◌≡◌, ◌≤◌, ltb};
+ghost use Rattle.bits.specs.Bits.{less};
+ghost use Rattle.timer.specs.declared.Moving.{Moving};
+ghost use Rattle.timer.specs.Shared.{transferred, counted};
 ghost use Rattle.timer.specs.Mode0.{pulse0};
 ghost use Rattle.timer.specs.Mode1.{pulse1};
 ghost use Rattle.timer.specs.Mode2.{pulse2};
@@ -10,14 +12,14 @@ ghost use Rattle.timer.specs.Mode3.{loaded_even, end_of_half, pulse3};
 ghost use Rattle.timer.specs.Mode4.{pulse4};
 ghost use Rattle.timer.specs.Mode5.{pulse5};
 ghost use Rattle.timer.specs.Modes.{mode_of, moded};
-ghost use Rattle.timer.specs.Ports.{reset_of, told_wrote, told_shown, mode_set, mode_word, latch_word, control_of, dropped, completed, size_of, count_of, begun, write_of, held, read_of, seen_of};
+ghost use Rattle.timer.specs.Ports.{status_of, reset_of, told_wrote, told_shown, told_seen, mode_set, mode_word, latch_word, control_of, dropped, completed, size_of, count_of, begun, write_of, held, read_of, seen_of};
 ghost use Rattle.timer.specs.Pulse.{pulse_of, gate_of};
 ghost use Rattle.timer.specs.Run.{rise_of, ran_of};
-ghost use Rattle.timer.specs.Steady.{moved, fall0, fall2, fall3, fall4, fell_of, fallen_to, rested, steady_of};
-ghost use Rattle.timer.specs.Timer.{at, resets_of, wrote_by, controls_of, writes_of, reads_of, pulses_of, gates_of, outs_of};
+ghost use Rattle.timer.specs.Steady.{rose, fall0, fall2, fall3, fall4, fell_by, rested, steady_of};
+ghost use Rattle.timer.specs.Timer.{written_as, got_as, resets_of, controls_of, writes_of, reads_of, pulses_of, gates_of, outs_of};
 
 #[repr(C)]
-#[derive(Clone, Copy)]
+#[derive(Clone, Copy, PartialEq, Eq)]
 pub struct Counter {
     // 0 to 5, any other number is no mode
     pub mode: u8,
@@ -47,29 +49,36 @@ pub struct Counter {
     pub odd: bool,
 }
 
-// What a counter answers to a control word or a count byte.
-#[derive(Clone, Copy)]
-pub enum Wrote {
-    Taken(Counter),
+// Why a write or a read is refused.
+#[derive(Clone, Copy, PartialEq, Eq)]
+pub enum Refusal {
+    // the control port is not open to reads
+    NotThere,
     // no mode is set
-    Unset,
-    // BCD
-    Unbuilt,
+    OutOfTurn,
+    // BCD, or the multiple latch
+    NotBuilt,
     // count 1 in mode 2 or 3
-    One,
+    TooSmall,
 }
 
-// What a counter answers to a read: the byte and the counter afterwards, or that no mode is set.
-#[derive(Clone, Copy)]
-pub enum Shown {
-    Byte(u8, Counter),
-    Modeless,
+impl Refusal {
+    // Its status number.
+    pub fn status(self) -> u8
+        ensures { result ≡ status_of self }
+    {
+        match self {
+            Refusal::NotThere => 2,
+            Refusal::OutOfTurn => 3,
+            Refusal::NotBuilt => 4,
+            Refusal::TooSmall => 6,
+        }
+    }
 }
 
-// What a read of a counter answers: the status, the byte, and the two fields that it may change as they are after it.
+// What a read of a counter shows: the byte, and the two fields that it may change as they are after it.
 #[derive(Clone, Copy)]
-pub struct Seen {
-    pub status: u8,
+pub struct Shown {
     pub byte: u8,
     pub latched: bool,
     pub second: bool,
@@ -82,34 +91,18 @@ pub struct Ran {
     pub rises: u32,
 }
 
-// The same of the three fields that move once nothing pends.
+// The three fields that a pulse moves once nothing pends.
 #[derive(Clone, Copy)]
-pub struct Fall {
+pub struct Moving {
     pub value: u16,
     pub out: bool,
     pub odd: bool,
-    pub rises: u32,
 }
 
 #[repr(C)]
-#[derive(Clone, Copy)]
+#[derive(Clone, Copy, PartialEq, Eq)]
 pub struct Timer {
     pub counters: [Counter; Timer::COUNTERS],
-}
-
-// What the timer answers to a write: the status, and the timer afterwards.
-#[derive(Clone, Copy)]
-pub struct Written {
-    pub status: u8,
-    pub timer: Timer,
-}
-
-// What the timer answers to a read: the byte is zero where the status isn't.
-#[derive(Clone, Copy)]
-pub struct Got {
-    pub status: u8,
-    pub byte: u8,
-    pub timer: Timer,
 }
 
 // One where a level rose.
@@ -117,233 +110,128 @@ fn rise(was: bool, now: bool) -> u32
     ensures value { result ≡ rise_of was now }
     ensures upper_bound { result ≤ 1 }
 {
-    if was {
-        return 0;
-    }
-    if now {
-        return 1;
-    }
-    0
+    u32::from(!was && now)
 }
 
-// n pulses of modes 0 and 1. OUT never falls on the way, so it rose once if it ends high and was low.
-fn fall_0(value: u16, out: bool, odd: bool, n: u32) -> Fall
-    ensures { result ≡ fell_of fall0 (moved value out odd) n }
+// A steady pulse of modes 0 and 1, in which OUT never falls.
+fn fall_0(m: &mut Moving)
+    ensures { m.new ≡ fall0 m.old }
 {
-    let mut v = value;
-    let mut high = out;
-    let mut i = 0;
-    while i < n {
-        i += 1;
-        v = bits::one_less(v);
-        if v == 0 {
-            high = true;
-        }
-    }
-    Fall {
-        value: v,
-        out: high,
-        odd: odd,
-        rises: rise(out, high),
+    m.value = bits::one_less(m.value);
+    if m.value == 0 {
+        m.out = true;
     }
 }
 
-// n pulses of mode 2.
-fn fall_2(count: u16, value: u16, out: bool, odd: bool, n: u32) -> Fall
-    ensures { result ≡ fell_of (fall2 count) (moved value out odd) n }
+// A steady pulse of mode 2, and whether it made OUT rise.
+fn fall_2(count: u16, m: &mut Moving) -> bool
+    ensures moves { m.new ≡ fall2 count m.old }
+    ensures tells { result ≡ rose m.old m.new }
 {
-    let mut v = value;
-    let mut high = out;
-    let mut rises = 0;
-    let mut i = 0;
-    while i < n {
-        i += 1;
-        if v == 1 {
-            rises += rise(high, true);
-            v = count;
-            high = true;
-            continue;
-        }
-        v = bits::one_less(v);
-        if v == 1 {
-            high = false;
-        }
+    if m.value == 1 {
+        let low = !m.out;
+        m.value = count;
+        m.out = true;
+        return low;
     }
-    Fall {
-        value: v,
-        out: high,
-        odd: odd,
-        rises: rises,
+    m.value = bits::one_less(m.value);
+    if m.value == 1 {
+        m.out = false;
     }
+    false
 }
 
-// n pulses of mode 3.
-fn fall_3(count: u16, value: u16, out: bool, odd: bool, n: u32) -> Fall
-    ensures { result ≡ fell_of (fall3 count) (moved value out odd) n }
+// The same of mode 3.
+fn fall_3(count: u16, m: &mut Moving) -> bool
+    ensures moves { m.new ≡ fall3 count m.old }
+    ensures tells { result ≡ rose m.old m.new }
 {
-    let mut v = value;
-    let mut high = out;
-    let mut long = odd;
-    let mut rises = 0;
-    let mut i = 0;
-    while i < n {
-        i += 1;
-        if v == end_of_half(high, long) {
-            rises += rise(high, !high);
-            v = count - count % 2;
-            high = !high;
-            long = count % 2 == 1;
-            continue;
-        }
-        v = bits::one_less(bits::one_less(v));
+    if m.value == end_of_half(m.out, m.odd) {
+        m.value = count - count % 2;
+        m.out = !m.out;
+        m.odd = count % 2 == 1;
+        return m.out;
     }
-    Fall {
-        value: v,
-        out: high,
-        odd: long,
-        rises: rises,
-    }
+    m.value = bits::one_less(bits::one_less(m.value));
+    false
 }
 
-// n pulses of modes 4 and 5.
-fn fall_4(value: u16, out: bool, odd: bool, n: u32) -> Fall
-    ensures { result ≡ fell_of fall4 (moved value out odd) n }
+// The same of modes 4 and 5.
+fn fall_4(m: &mut Moving) -> bool
+    ensures moves { m.new ≡ fall4 m.old }
+    ensures tells { result ≡ rose m.old m.new }
 {
-    let mut v = value;
-    let mut high = out;
-    let mut rises = 0;
-    let mut i = 0;
-    while i < n {
-        i += 1;
-        v = bits::one_less(v);
-        if v == 0 {
-            high = false;
-            continue;
-        }
-        rises += rise(high, true);
-        high = true;
+    m.value = bits::one_less(m.value);
+    if m.value == 0 {
+        m.out = false;
+        return false;
     }
-    Fall {
-        value: v,
-        out: high,
-        odd: odd,
-        rises: rises,
-    }
+    let low = !m.out;
+    m.out = true;
+    low
 }
 
 // Where a half of mode 3 ends: the high half of an odd count is the longer one.
 fn end_of_half(high: bool, odd: bool) -> u16
     ensures { result ≡ end_of_half high odd }
 {
-    if high {
-        if odd {
-            return 0;
-        }
-        return 2;
-    }
-    2
+    if high && odd { 0 } else { 2 }
 }
 
 // What a mode's table says besides its pulse: whether OUT starts high.
+#[tactic(auto, unfolding(crate::specs::Modes::mode_of))]
 fn starts_high(mode: u8) -> bool
     ensures { result ≡ (mode_of mode).high }
 {
-    match mode {
-        0 => false,
-        1 => true,
-        2 => true,
-        3 => true,
-        4 => true,
-        5 => true,
-        _ => false,
-    }
+    matches!(mode, 1..=5)
 }
 
 // Whether GATE's rise is a trigger.
+#[tactic(auto, unfolding(crate::specs::Modes::mode_of))]
 fn has_trigger(mode: u8) -> bool
     ensures { result ≡ (mode_of mode).triggers }
 {
-    match mode {
-        0 => false,
-        1 => true,
-        2 => true,
-        3 => true,
-        4 => false,
-        5 => true,
-        _ => false,
-    }
+    matches!(mode, 1 | 2 | 3 | 5)
 }
 
 // Whether GATE's fall sets OUT high.
+#[tactic(auto, unfolding(crate::specs::Modes::mode_of))]
 fn lifts_out(mode: u8) -> bool
     ensures { result ≡ (mode_of mode).lifts }
 {
-    match mode {
-        0 => false,
-        1 => false,
-        2 => true,
-        3 => true,
-        4 => false,
-        5 => false,
-        _ => false,
-    }
+    matches!(mode, 2 | 3)
 }
 
 // Whether a count byte sets OUT low.
+#[tactic(auto, unfolding(crate::specs::Modes::mode_of))]
 fn drops_out(mode: u8) -> bool
     ensures { result ≡ (mode_of mode).drops }
 {
-    match mode {
-        0 => true,
-        1 => false,
-        2 => false,
-        3 => false,
-        4 => false,
-        5 => false,
-        _ => false,
-    }
+    mode == 0
 }
 
 // Whether each complete count is to be transferred, and not the first alone.
+#[tactic(auto, unfolding(crate::specs::Modes::mode_of))]
 fn takes_each(mode: u8) -> bool
     ensures { result ≡ (mode_of mode).each }
 {
-    match mode {
-        0 => true,
-        1 => false,
-        2 => false,
-        3 => false,
-        4 => true,
-        5 => false, // a trigger alone starts it
-        _ => false,
-    }
+    matches!(mode, 0 | 4) // mode 5 waits for a trigger
 }
 
 // The minimum count.
+#[tactic(auto, unfolding(crate::specs::Modes::mode_of))]
 fn least(mode: u8) -> u16
     ensures value { result ≡ (mode_of mode).least }
     ensures upper_bound { result ≤ 2 }
 {
-    match mode {
-        0 => 1,
-        1 => 1,
-        2 => 2,
-        3 => 2,
-        4 => 1,
-        5 => 1,
-        _ => 1,
-    }
+    if matches!(mode, 2 | 3) { 2 } else { 1 }
 }
 
 // Whether a count is below the minimum; 0 counts 65,536.
 fn is_too_small(mode: u8, n: u16) -> bool
     ensures { result ≡ ltb (size_of n) (mode_of mode).least }
 {
-    let least = least(mode);
-    if n == 0 {
-        return false;
-    }
-    n < least
+    n != 0 && n < least(mode)
 }
 
 impl Counter {
@@ -381,6 +269,7 @@ impl Counter {
     }
 
     // Whether a mode is set.
+    #[tactic(auto, unfolding(crate::specs::Modes::moded))]
     fn is_moded(self) -> bool
         ensures { result ≡ moded self }
     {
@@ -388,6 +277,7 @@ impl Counter {
     }
 
     // The value stays: it is what reads show until the first transfer.
+    #[tactic(auto, unfolding(crate::specs::Ports::mode_set))]
     fn set_mode(mut self, mode: u8, format: u8) -> Counter
         ensures { result ≡ mode_set mode format self }
     {
@@ -404,43 +294,43 @@ impl Counter {
     }
 
     // A mode word. In x10 and x11 D3 does not count: 110 is mode 2 too, 111 mode 3.
-    fn take_mode(self, word: u8) -> Wrote
+    #[tactic(auto, unfolding(crate::specs::Ports::mode_word))]
+    fn take_mode(self, word: u8) -> Result<Counter, Refusal>
         ensures { told_wrote self result ≡ mode_word self word }
     {
-        let mode = word / 2 % 8;
-        let format = word / 16 % 4;
         if word % 2 == 1 {
-            return Wrote::Unbuilt;
+            return Err(Refusal::NotBuilt);
         }
-        if mode % 4 < 2 {
-            return Wrote::Taken(self.set_mode(mode, format));
-        }
-        Wrote::Taken(self.set_mode(mode % 4, format))
+        let named = word / 2 % 8;
+        let mode = if named % 4 < 2 { named } else { named % 4 };
+        Ok(self.set_mode(mode, word / 16 % 4))
     }
 
     // A latch that holds already is left as it is.
-    fn take_latch(mut self) -> Wrote
+    #[tactic(auto, unfolding(crate::specs::Ports::latch_word))]
+    fn take_latch(mut self) -> Result<Counter, Refusal>
         ensures { told_wrote self result ≡ latch_word self }
     {
-        if self.is_moded() {
-            if self.latched {
-                return Wrote::Taken(self);
-            }
+        if !self.is_moded() {
+            return Err(Refusal::OutOfTurn);
+        }
+        if !self.latched {
             self.latched = true;
             self.latch = self.value;
-            return Wrote::Taken(self);
         }
-        Wrote::Unset
+        Ok(self)
     }
 
     // A control word whose D7-D6 name this counter.
-    pub fn control(self, word: u8) -> Wrote
+    #[tactic(auto, unfolding(crate::specs::Ports::control_of))]
+    pub fn control(self, word: u8) -> Result<Counter, Refusal>
         ensures { told_wrote self result ≡ control_of self word }
     {
         if word / 16 % 4 == 0 {
-            return self.take_latch();
+            self.take_latch()
+        } else {
+            self.take_mode(word)
         }
-        self.take_mode(word)
     }
 
     // What a count byte does to OUT at once.
@@ -454,17 +344,13 @@ impl Counter {
     }
 
     // A complete count: the down counter gets it at a pulse, never here.
+    #[tactic(auto, unfolding(crate::specs::Ports::completed))]
     fn complete(mut self, n: u16) -> Counter
         ensures { result ≡ completed self n }
     {
         self.count = n;
         self.half = false;
-        if takes_each(self.mode) {
-            self.full = true;
-            self.pending = true;
-            return self.drop_out();
-        }
-        if self.full {
+        if !takes_each(self.mode) && self.full {
             return self;
         }
         self.full = true;
@@ -473,16 +359,18 @@ impl Counter {
     }
 
     // A refused count leaves the byte kept apart, so the high byte may be written again.
-    fn take_count(self, n: u16) -> Wrote
+    #[tactic(auto, unfolding(crate::specs::Ports::count_of))]
+    fn take_count(self, n: u16) -> Result<Counter, Refusal>
         ensures { told_wrote self result ≡ count_of self n }
     {
         if is_too_small(self.mode, n) {
-            return Wrote::One;
+            return Err(Refusal::TooSmall);
         }
-        Wrote::Taken(self.complete(n))
+        Ok(self.complete(n))
     }
 
     // The first byte of two.
+    #[tactic(auto, unfolding(crate::specs::Ports::begun))]
     fn begin(mut self, x: u8) -> Counter
         ensures { result ≡ begun self x }
     {
@@ -492,101 +380,87 @@ impl Counter {
     }
 
     // A count byte.
-    pub fn write(self, x: u8) -> Wrote
+    #[tactic(auto, unfolding(crate::specs::Ports::write_of))]
+    pub fn write(self, x: u8) -> Result<Counter, Refusal>
         ensures { told_wrote self result ≡ write_of self x }
     {
-        if self.is_moded() {
-            if self.format == Counter::LOW {
-                return self.take_count(x as u16);
-            }
-            if self.format == Counter::HIGH {
-                return self.take_count(x as u16 * 256);
-            }
-            if self.half {
-                let low = self.low as u16;
-                return self.take_count(low + x as u16 * 256);
-            }
-            return Wrote::Taken(self.begin(x));
+        if !self.is_moded() {
+            return Err(Refusal::OutOfTurn);
         }
-        Wrote::Unset
+        let x = u16::from(x);
+        match self.format {
+            Counter::LOW => self.take_count(x),
+            Counter::HIGH => self.take_count(x * 256),
+            _ if self.half => self.take_count(u16::from(self.low) + x * 256),
+            _ => Ok(self.begin(x as u8)),
+        }
     }
 
     // What a read shows.
+    #[tactic(auto, unfolding(crate::specs::Ports::held))]
     fn shown(self) -> u16
         ensures { result ≡ held self }
     {
-        if self.latched {
-            return self.latch;
-        }
-        self.value
+        if self.latched { self.latch } else { self.value }
     }
 
     // A count byte read. Its place is not the writer's.
-    pub fn look(self) -> Seen
-        ensures { result ≡ seen_of self }
+    #[tactic(auto, unfolding(crate::specs::Ports::read_of, crate::specs::Ports::seen_of))]
+    pub fn look(self) -> Result<Shown, Refusal>
+        ensures { told_seen self result ≡ seen_of self }
     {
-        if self.is_moded() {
-            let v = self.shown();
-            if self.format == Counter::LOW {
-                return Seen {
-                    status: 0,
-                    byte: (v % 256) as u8,
-                    latched: false,
-                    second: self.second,
-                };
-            }
-            if self.format == Counter::HIGH {
-                return Seen {
-                    status: 0,
-                    byte: (v / 256) as u8,
-                    latched: false,
-                    second: self.second,
-                };
-            }
-            if self.second {
-                return Seen {
-                    status: 0,
-                    byte: (v / 256) as u8,
-                    latched: false,
-                    second: false,
-                };
-            }
+        if !self.is_moded() {
+            return Err(Refusal::OutOfTurn);
+        }
+        let v = self.shown();
+        let (low, high) = ((v % 256) as u8, (v / 256) as u8);
+        let (byte, latched, second) = match self.format {
+            Counter::LOW => (low, false, self.second),
+            Counter::HIGH => (high, false, self.second),
+            _ if self.second => (high, false, false),
             // the last byte alone frees the latch
-            let latched = self.latched;
-            return Seen {
-                status: 0,
-                byte: (v % 256) as u8,
-                latched: latched,
-                second: true,
-            };
-        }
-        Seen {
-            status: 3,
-            byte: 0,
-            latched: self.latched,
-            second: self.second,
-        }
+            _ => (low, self.latched, true),
+        };
+        Ok(Shown {
+            byte,
+            latched,
+            second,
+        })
     }
 
     // The same, with the counter as it is afterwards.
-    pub fn read(mut self) -> Shown
+    #[tactic(auto, unfolding(crate::specs::Ports::read_of, crate::specs::Ports::seen_of))]
+    pub fn read(self) -> Result<(u8, Counter), Refusal>
         ensures { told_shown self result ≡ read_of self }
     {
-        let s = self.look();
-        if s.status == 0 {
-            self.latched = s.latched;
-            self.second = s.second;
-            return Shown::Byte(s.byte, self);
-        }
-        Shown::Modeless
+        let s = self.look()?;
+        let after = Counter {
+            latched: s.latched,
+            second: s.second,
+            ..self
+        };
+        Ok((s.byte, after))
     }
 
     // The last complete count is transferred, once.
-    fn transfer(mut self) -> Counter
+    fn transfer(self) -> Counter
         ensures { result ≡ transferred self }
     {
-        self.pending = false;
-        self.value = self.count;
+        Counter {
+            pending: false,
+            value: self.count,
+            ..self
+        }
+    }
+
+    // One less, and at the end OUT takes a level.
+    fn count_down(mut self, end: u16, level: bool) -> Counter
+        ensures { result ≡ counted end level (less self.value) self }
+    {
+        self.value = bits::one_less(self.value);
+        if self.value == end {
+            self.out = level;
+        }
         self
     }
 
@@ -598,199 +472,200 @@ impl Counter {
     }
 
     // The load of mode 3: the even number below an odd one, and that it was odd.
-    fn load_even(mut self) -> Counter
+    fn load_even(self) -> Counter
         ensures { result ≡ loaded_even self }
     {
-        self.odd = self.count % 2 == 1;
-        self.value = self.count - self.count % 2;
-        self
+        Counter {
+            value: self.count - self.count % 2,
+            odd: self.count % 2 == 1,
+            ..self
+        }
     }
 
     // A pulse in mode 0.
-    fn pulse_0(mut self) -> Counter
+    #[tactic(auto, unfolding(crate::specs::Mode0::pulse0))]
+    fn pulse_0(self) -> Counter
         ensures { result ≡ pulse0 self }
     {
         if self.pending {
-            return self.transfer();
+            self.transfer()
+        } else if self.gate && !self.half {
+            self.count_down(0, true)
+        } else {
+            self
         }
-        if self.gate {
-            if self.half {
-                return self;
-            }
-            let v = bits::one_less(self.value);
-            self.value = v;
-            if v == 0 {
-                self.out = true;
-            }
-            return self;
-        }
-        self
     }
 
     // A pulse in mode 1.
-    fn pulse_1(mut self) -> Counter
+    #[tactic(auto, unfolding(crate::specs::Mode1::pulse1))]
+    fn pulse_1(self) -> Counter
         ensures { result ≡ pulse1 self }
     {
         let fires = self.trigger;
         if fires {
-            let mut started = self.transfer();
-            started.trigger = false;
-            started.out = false;
-            return started;
+            Counter {
+                trigger: false,
+                out: false,
+                ..self.transfer()
+            }
+        } else if self.pending {
+            self
+        } else {
+            self.count_down(0, true)
         }
-        if self.pending {
-            return self;
-        }
-        let v = bits::one_less(self.value);
-        self.value = v;
-        if v == 0 {
-            self.out = true;
-        }
-        self
     }
 
     // A pulse in mode 2.
-    fn pulse_2(mut self) -> Counter
+    #[tactic(auto, unfolding(crate::specs::Mode2::pulse2))]
+    fn pulse_2(self) -> Counter
         ensures { result ≡ pulse2 self }
     {
         if self.pending {
             let mut first = self.transfer();
             first.trigger = false;
-            return first;
-        }
-        if self.trigger {
-            self.trigger = false;
-            self.value = self.count;
-            self.out = true;
-            return self;
-        }
-        if self.gate {
-            if self.value == 1 {
-                self.value = self.count;
-                self.out = true;
-                return self;
+            first
+        } else if self.trigger {
+            Counter {
+                trigger: false,
+                value: self.count,
+                out: true,
+                ..self
             }
-            let v = bits::one_less(self.value);
-            self.value = v;
-            if v == 1 {
-                self.out = false;
+        } else if !self.gate {
+            self
+        } else if self.value == 1 {
+            Counter {
+                value: self.count,
+                out: true,
+                ..self
             }
-            return self;
+        } else {
+            self.count_down(1, false)
         }
-        self
     }
 
     // A pulse in mode 3.
-    fn pulse_3(mut self) -> Counter
+    #[tactic(auto, unfolding(crate::specs::Mode3::pulse3))]
+    fn pulse_3(self) -> Counter
         ensures { result ≡ pulse3 self }
     {
         if self.pending {
-            let mut loaded = self.load_even();
-            loaded.pending = false;
-            loaded.trigger = false;
-            return loaded;
-        }
-        if self.trigger {
-            let mut again = self.load_even();
-            again.trigger = false;
-            again.out = true;
-            return again;
-        }
-        if self.gate {
-            if self.value == self.half_end() {
-                let mut turned = self.load_even();
-                turned.out = !self.out;
-                return turned;
+            Counter {
+                pending: false,
+                trigger: false,
+                ..self.load_even()
             }
-            self.value = bits::one_less(bits::one_less(self.value));
-            return self;
+        } else if self.trigger {
+            Counter {
+                trigger: false,
+                out: true,
+                ..self.load_even()
+            }
+        } else if !self.gate {
+            self
+        } else if self.value == self.half_end() {
+            Counter {
+                out: !self.out,
+                ..self.load_even()
+            }
+        } else {
+            Counter {
+                value: bits::one_less(bits::one_less(self.value)),
+                ..self
+            }
         }
-        self
     }
 
     // A pulse in mode 4. The strobe ends first, whatever the pulse does then.
+    #[tactic(auto, unfolding(crate::specs::Mode4::pulse4))]
     fn pulse_4(mut self) -> Counter
         ensures { result ≡ pulse4 self }
     {
         self.out = true; // a strobe lasts one pulse
         if self.pending {
-            return self.transfer();
+            self.transfer()
+        } else if self.gate {
+            self.count_down(0, false)
+        } else {
+            self
         }
-        if self.gate {
-            let left = bits::one_less(self.value);
-            self.value = left;
-            if left == 0 {
-                self.out = false;
-            }
-            return self;
-        }
-        self
     }
 
     // A pulse in mode 5, where the strobe ends likewise.
+    #[tactic(auto, unfolding(crate::specs::Mode5::pulse5))]
     fn pulse_5(mut self) -> Counter
         ensures { result ≡ pulse5 self }
     {
         self.out = true;
         let starts = self.trigger;
         if starts {
-            let mut started = self.transfer();
-            started.trigger = false;
-            return started;
+            Counter {
+                trigger: false,
+                ..self.transfer()
+            }
+        } else if self.pending {
+            self
+        } else {
+            self.count_down(0, false)
         }
-        if self.pending {
-            return self;
-        }
-        let v = bits::one_less(self.value);
-        self.value = v;
-        if v == 0 {
-            self.out = false;
-        }
-        self
     }
 
     // One pulse of CLK.
+    #[tactic(auto, unfolding(crate::specs::Pulse::pulse_of, crate::specs::Modes::mode_of))]
     pub fn pulse(self) -> Counter
         ensures { result ≡ pulse_of self }
     {
-        if self.full {
-            let mode = self.mode;
-            match mode {
-                0 => {
-                    return self.pulse_0();
-                }
-                1 => {
-                    return self.pulse_1();
-                }
-                2 => {
-                    return self.pulse_2();
-                }
-                3 => {
-                    return self.pulse_3();
-                }
-                4 => {
-                    return self.pulse_4();
-                }
-                5 => {
-                    return self.pulse_5();
-                }
-                _ => {
-                    return self;
-                }
-            }
+        if !self.full {
+            return self;
         }
-        self
+        match self.mode {
+            0 => self.pulse_0(),
+            1 => self.pulse_1(),
+            2 => self.pulse_2(),
+            3 => self.pulse_3(),
+            4 => self.pulse_4(),
+            5 => self.pulse_5(),
+            _ => self,
+        }
     }
 
-    fn fall_to(mut self, f: Fall) -> Ran
-        ensures { result ≡ fallen_to self f }
+    // n pulses, each a step that tells whether OUT rose.
+    fn fall<F: Fn(&mut Moving) -> bool>(self, n: u32, step: F) -> Ran
+        requires { F.IsAlwaysCallable step }
+        ensures moves { (rule : Moving → Moving) → ((m : _) (r : _) (next : _) → F.post step m r next → next.now ≡ rule m.now) → result.counter ≡ (fell_by rule self n).counter }
+        ensures tells { (rule : Moving → Moving) → ((m : _) (r : _) (next : _) → F.post step m r next → next.now ≡ rule m.now) → ((m : _) (r : _) (next : _) → F.post step m r next → r ≡ rose m.now next.now) → result ≡ fell_by rule self n }
     {
-        self.value = f.value;
-        self.out = f.out;
-        self.odd = f.odd;
+        let mut m = Moving {
+            value: self.value,
+            out: self.out,
+            odd: self.odd,
+        };
+        let mut rises = 0;
+        for _ in 0..n {
+            rises += u32::from(step(&mut m));
+        }
         Ran {
-            counter: self,
-            rises: f.rises,
+            counter: Counter {
+                value: m.value,
+                out: m.out,
+                odd: m.odd,
+                ..self
+            },
+            rises,
+        }
+    }
+
+    // n pulses of modes 0 and 1. OUT never falls on the way, so it rose once if it ends high and was low.
+    fn fall_once(self, n: u32) -> Ran
+        ensures { result ≡ fell_by fall0 self n }
+    {
+        let ran = self.fall(n, |m| {
+            fall_0(m);
+            false
+        });
+        Ran {
+            rises: rise(self.out, ran.counter.out),
+            ..ran
         }
     }
 
@@ -807,54 +682,18 @@ impl Counter {
     fn run_steady(self, n: u32) -> Ran
         ensures { result ≡ steady_of self n }
     {
-        if self.full {
-            let mode = self.mode;
-            match mode {
-                0 => {
-                    if self.gate {
-                        if self.half {
-                            return self.rest();
-                        }
-                        return self.fall_to(fall_0(self.value, self.out, self.odd, n));
-                    }
-                    return self.rest();
-                }
-                1 => {
-                    if self.pending {
-                        return self.rest();
-                    }
-                    return self.fall_to(fall_0(self.value, self.out, self.odd, n));
-                }
-                2 => {
-                    if self.gate {
-                        return self.fall_to(fall_2(self.count, self.value, self.out, self.odd, n));
-                    }
-                    return self.rest();
-                }
-                3 => {
-                    if self.gate {
-                        return self.fall_to(fall_3(self.count, self.value, self.out, self.odd, n));
-                    }
-                    return self.rest();
-                }
-                4 => {
-                    if self.gate {
-                        return self.fall_to(fall_4(self.value, self.out, self.odd, n));
-                    }
-                    return self.rest();
-                }
-                5 => {
-                    if self.pending {
-                        return self.rest();
-                    }
-                    return self.fall_to(fall_4(self.value, self.out, self.odd, n));
-                }
-                _ => {
-                    return self.rest();
-                }
-            }
+        if !self.full {
+            return self.rest();
         }
-        self.rest()
+        match self.mode {
+            0 if self.gate && !self.half => self.fall_once(n),
+            1 if !self.pending => self.fall_once(n),
+            2 if self.gate => self.fall(n, |m| fall_2(self.count, m)),
+            3 if self.gate => self.fall(n, |m| fall_3(self.count, m)),
+            4 if self.gate => self.fall(n, fall_4),
+            5 if !self.pending => self.fall(n, fall_4),
+            _ => self.rest(),
+        }
     }
 
     // n pulses of CLK: the first uses up what pends.
@@ -865,39 +704,27 @@ impl Counter {
             return self.rest();
         }
         let next = self.pulse();
-        let rest = next.run_steady(n - 1);
-        let last = rest.counter;
+        let ran = next.run_steady(n - 1);
         Ran {
-            counter: last,
-            rises: rise(self.out, next.out) + rest.rises,
+            counter: ran.counter,
+            rises: rise(self.out, next.out) + ran.rises,
         }
     }
 
     // GATE at a level; a repeated level is no edge.
+    #[tactic(auto, unfolding(crate::specs::Pulse::gate_of))]
     pub fn set_gate(mut self, high: bool) -> Counter
         ensures { result ≡ gate_of self high }
     {
-        if high {
-            if self.gate {
-                return self;
-            }
-            self.gate = true;
-            if has_trigger(self.mode) {
-                if self.full {
-                    self.trigger = true;
-                    return self;
-                }
-                return self;
-            }
+        if high == self.gate {
             return self;
         }
-        if self.gate {
-            self.gate = false;
-            if lifts_out(self.mode) {
-                self.out = true;
-                return self;
-            }
-            return self;
+        self.gate = high;
+        if high && has_trigger(self.mode) && self.full {
+            self.trigger = true;
+        }
+        if !high && lifts_out(self.mode) {
+            self.out = true;
         }
         self
     }
@@ -913,145 +740,89 @@ impl Timer {
     pub const CONTROL: u8 = 3;
 
     // Three counters at their reset.
+    #[tactic(auto, unfolding(crate::specs::Timer::resets_of))]
     pub fn reset() -> Timer
         ensures { result ≡ resets_of }
     {
         Timer {
-            counters: [Counter::reset(), Counter::reset(), Counter::reset()],
-        }
-    }
-
-    // Counter n's answer as the timer's.
-    fn answer(mut self, n: usize, w: Wrote) -> Written
-        requires { n < 3 }
-        ensures { result ≡ wrote_by self n (told_wrote (at self n) w) }
-    {
-        match w {
-            Wrote::Taken(c) => {
-                self.counters[n] = c;
-                return Written {
-                    status: 0,
-                    timer: self,
-                };
-            }
-            Wrote::Unset => {
-                return Written {
-                    status: 3,
-                    timer: self,
-                };
-            }
-            Wrote::Unbuilt => {
-                return Written {
-                    status: 4,
-                    timer: self,
-                };
-            }
-            Wrote::One => {
-                return Written {
-                    status: 6,
-                    timer: self,
-                };
-            }
+            counters: [Counter::reset(); Timer::COUNTERS],
         }
     }
 
     // A control word; 11 in D7-D6 is the multiple latch.
-    fn control(self, word: u8) -> Written
-        ensures { result ≡ controls_of self word }
+    #[tactic(auto, unfolding(crate::specs::Timer::controls_of, crate::specs::Timer::wrote_by))]
+    fn control(mut self, word: u8) -> Result<Timer, Refusal>
+        ensures { written_as self result ≡ controls_of self word }
     {
-        let n = (word / 64) as usize;
+        let n = usize::from(word / 64);
         if n == 3 {
-            return Written {
-                status: 4,
-                timer: self,
-            };
+            return Err(Refusal::NotBuilt);
         }
-        let c = self.counters[n];
-        self.answer(n, c.control(word))
+        self.counters[n] = self.counters[n].control(word)?;
+        Ok(self)
     }
 
     // A write at A1-A0 of a.
-    pub fn write(self, a: u8, x: u8) -> Written
-        ensures { result ≡ writes_of self a x }
+    #[tactic(auto, unfolding(crate::specs::Timer::writes_of, crate::specs::Timer::wrote_by))]
+    pub fn write(mut self, a: u8, x: u8) -> Result<Timer, Refusal>
+        ensures { written_as self result ≡ writes_of self a x }
     {
         let port = a % Timer::PORTS;
         if port == Timer::CONTROL {
             return self.control(x);
         }
-        let n = port as usize;
-        let c = self.counters[n];
-        self.answer(n, c.write(x))
+        let n = usize::from(port);
+        self.counters[n] = self.counters[n].write(x)?;
+        Ok(self)
     }
 
     // A read at A1-A0 of a.
-    pub fn read(mut self, a: u8) -> Got
-        ensures { result ≡ reads_of self a }
+    #[tactic(auto, unfolding(crate::specs::Timer::reads_of, crate::specs::Timer::got_by))]
+    pub fn read(mut self, a: u8) -> Result<(u8, Timer), Refusal>
+        ensures { got_as self result ≡ reads_of self a }
     {
         let port = a % Timer::PORTS;
         if port == Timer::CONTROL {
-            return Got {
-                status: 2,
-                byte: 0,
-                timer: self,
-            };
+            return Err(Refusal::NotThere);
         }
-        let n = port as usize;
-        let c = self.counters[n];
-        let s = c.read();
-        match s {
-            Shown::Byte(b, d) => {
-                self.counters[n] = d;
-                return Got {
-                    status: 0,
-                    byte: b,
-                    timer: self,
-                };
-            }
-            Shown::Modeless => {
-                return Got {
-                    status: 3,
-                    byte: 0,
-                    timer: self,
-                };
-            }
-        }
+        let n = usize::from(port);
+        let (byte, after) = self.counters[n].read()?;
+        self.counters[n] = after;
+        Ok((byte, self))
     }
 
     // One pulse of the one clock.
+    #[tactic(auto, unfolding(crate::specs::Timer::pulses_of))]
     pub fn pulse(self) -> Timer
         ensures { result ≡ pulses_of self }
     {
-        let a = self.counters[0];
-        let b = self.counters[1];
-        let c = self.counters[2];
         Timer {
-            counters: [a.pulse(), b.pulse(), c.pulse()],
+            counters: self.counters.map(Counter::pulse),
         }
     }
 
     // Bits 0 to 2 are the levels of GATE0 to GATE2.
+    #[tactic(auto, unfolding(crate::specs::Timer::gates_of))]
     pub fn set_gates(self, levels: u8) -> Timer
         ensures { result ≡ gates_of self levels }
     {
-        let a = self.counters[0];
-        let b = self.counters[1];
-        let c = self.counters[2];
-        let a = a.set_gate(bits::bit(levels, 0));
-        let b = b.set_gate(bits::bit(levels, 1));
-        let c = c.set_gate(bits::bit(levels, 2));
+        let [a, b, c] = self.counters;
         Timer {
-            counters: [a, b, c],
+            counters: [
+                a.set_gate(bits::bit(levels, 0)),
+                b.set_gate(bits::bit(levels, 1)),
+                c.set_gate(bits::bit(levels, 2)),
+            ],
         }
     }
 
     // OUT0 to OUT2 as bits 0 to 2.
+    #[tactic(auto, unfolding(crate::specs::Timer::outs_of))]
     pub fn outs(self) -> u8
         ensures value { result ≡ outs_of self }
         ensures upper_bound { result ≤ 7 }
     {
-        let a = self.counters[0];
-        let b = self.counters[1];
-        let c = self.counters[2];
+        let [a, b, c] = self.counters;
         bits::weigh(a.out, 1) + bits::weigh(b.out, 2) + bits::weigh(c.out, 4)
     }
 }

@@ -1,11 +1,12 @@
 // What came of a record, by the chips before it and after it.
 use crate::chips;
-use crate::chips::{Chips, Manner};
+use crate::chips::{Chips, Manner, flags};
 use dma::Dma;
 use icu::Icu;
-use sentences::bytes::{Answer, Record};
+use sentences::bytes::{Answer, Op, Record};
 use sentences::text::Text;
-use sentences::which;
+use sentences::which::how_many;
+use sentences::{Facts, Happened, which};
 use timer::{Counter, Timer};
 
 // What an answer says, and what came of its record besides; `done` where there is nothing to be said.
@@ -14,339 +15,195 @@ pub fn words(before: Chips, after: Chips, r: Record, a: Answer, m: Manner) -> Te
     if a.status != 0 {
         return said;
     }
-    if m.plain {
-        return or_done(said, r, a);
+    let all = if m.plain {
+        said
+    } else {
+        said.and(first_words(before, after, r))
+            .and(levels(before, after, r))
+    };
+    match all.as_bytes() {
+        // of an advance the rises
+        [] => sentences::say(which::done(a), Facts::from(a)),
+        // a row that begins with a piece begins after its semicolon
+        [b';', _, rest @ ..] => Text::new().say(rest),
+        _ => all,
     }
-    let all = said
-        .and(first_words(before, after, r))
-        .and(levels(before, after, r));
-    if all.n == 0 {
-        return or_done(all, r, a);
-    }
-    // a row that begins with a piece begins after its semicolon
-    if all.n < 2 {
-        return all;
-    }
-    if all.bytes[0] == b';' {
-        return Text::new().part(all, 2, all.n);
-    }
-    all
-}
-
-// A text, or where there is none what was done: of an advance the rises.
-fn or_done(said: Text, r: Record, a: Answer) -> Text {
-    if said.n == 0 {
-        return sentences::answered(which::done(r.op, a.kind, 0), a.facts(), 0);
-    }
-    said
 }
 
 // What is the record's own matter.
 fn first_words(before: Chips, after: Chips, r: Record) -> Text {
-    let op = r.op;
-    let port = r.port;
-    match op {
-        1 => written(before, after, port, r.byte),
-        3 => match port {
-            1 => gated(before.timer, after.timer),
-            2 => requested(after.dma),
-            _ => Text::new(),
-        },
-        5 => advanced(before.timer, after.timer, r.pulses()),
+    match (r.operation(), r.port) {
+        (Some(Op::Write), port) => written(before, after, port, r.byte),
+        (Some(Op::Lines), 1) => gated(before.timer, after.timer),
+        (Some(Op::Lines), 2) => requested(after.dma),
+        (Some(Op::Advance), _) => advanced(before.timer, after.timer, r.pulses % 65536),
         _ => Text::new(),
     }
 }
 
 fn written(before: Chips, after: Chips, port: u8, x: u8) -> Text {
-    let place = which::master_port(port);
     let slave = chips::is_slave(port);
-    match place / 16 {
-        0 => interrupt_words(before.chip(slave), after.chip(slave), port, x),
-        1 => counter_words(before.timer, after.timer, place, x),
-        _ => dma_words(after.dma, place, x),
+    match which::master_port(port) {
+        0x00..=0x0f => interrupt_words(before.chip(slave), after.chip(slave), port, x),
+        place @ 0x10..=0x1f => counter_words(before.timer, after.timer, place, x),
+        place => dma_words(after.dma, place, x),
     }
 }
 
 fn interrupt_words(was: Icu, now: Icu, port: u8, x: u8) -> Text {
     let finished = was.isr & !now.isr;
-    let f = [
-        x,
-        chips::is_slave(port) as u8,
-        finished,
-        which::how_many(finished),
-        now.isr,
-        now.stage,
-        (now.lowest % 8 + 1) % 8,
-        0,
-        0,
-        0,
-        0,
-        0,
-        0,
-        0,
-        0,
-        0,
-    ];
-    sentences::happened(word(port % 16, was.stage, x, finished), f, 0)
-}
-
-// Which words there are for a write at A0=0 or A0=1; none for IMR.
-fn word(a0: u8, stage: u8, x: u8, finished: u8) -> u8 {
-    if a0 == 0 {
-        return command(x, finished);
-    }
-    match stage {
-        Icu::READY => 0,
-        _ => 0x27,
+    let facts = Facts::new()
+        .with(0x0, x)
+        .with(0x1, chips::is_slave(port))
+        .with(0x2, finished)
+        .with(0x3, how_many(finished))
+        .with(0x4, now.isr)
+        .with(0x5, now.stage)
+        .with(0x6, (now.lowest % 8 + 1) % 8);
+    let sentence = match port % 16 {
+        0 => command(x, finished),
+        // IMR has no words
+        _ if was.stage == Icu::READY => None,
+        _ => Some(Happened::Awaits),
+    };
+    match sentence {
+        Some(sentence) => sentences::say(sentence, facts),
+        None => Text::new(),
     }
 }
 
 // A word at A0=0: IW1, MCW, or PFCW.
-fn command(x: u8, finished: u8) -> u8 {
+fn command(x: u8, finished: u8) -> Option<Happened> {
     match x / 8 % 4 {
-        0 => match finished {
-            0 => vain(x / 32),
-            _ => 0x20,
-        },
-        1 => match x % 4 {
-            2 => 0x25,
-            3 => 0x25,
-            _ => 0x24,
-        },
-        _ => 0x27,
+        0 if finished == 0 => vain(x / 32),
+        0 => Some(Happened::Finished),
+        1 if x & 2 != 0 => Some(Happened::ReadsShow),
+        1 => Some(Happened::NoEffect),
+        _ => Some(Happened::Awaits),
     }
 }
 
 // PFCW that ends no level, by D7-D5.
-fn vain(command: u8) -> u8 {
+fn vain(command: u8) -> Option<Happened> {
     match command {
-        1 => 0x21,
-        5 => 0x21,
-        3 => 0x22,
-        7 => 0x22,
-        6 => 0x23,
-        2 => 0x24,
-        _ => 0,
+        1 | 5 => Some(Happened::NothingInService),
+        3 | 7 => Some(Happened::NotInService),
+        6 => Some(Happened::HighestNow),
+        2 => Some(Happened::NoEffect),
+        _ => None,
     }
 }
 
-// The counter that a port, or a control word, is about.
-fn counter_of(port: u8, x: u8) -> u8 {
-    match port {
-        0x13 => x / 64,
-        _ => port % 4,
-    }
-}
-
+// By the port of a counter, or that of the control words, which name their counter.
 fn counter_words(before: Timer, after: Timer, port: u8, x: u8) -> Text {
-    let k = counter_of(port, x);
+    let control = port == 0x13;
+    let k = if control { x / 64 } else { port % 4 };
     let was = chips::counter(before, k);
     let now = chips::counter(after, k);
-    if port == 0x13 {
-        return four_facts(
-            control(x, was.latched),
-            low(now.latch),
-            high(now.latch),
-            0,
-            0,
-            0,
-        );
+    let facts = Facts::new().with_bytes(0x2, &now.latch.to_le_bytes());
+    if control {
+        let sentence = match x / 16 % 4 {
+            0 if was.latched => Happened::LatchUnread,
+            0 => Happened::Holds,
+            _ => Happened::AwaitsCount,
+        };
+        return sentences::say(sentence, facts);
     }
     if now.half {
-        return four_facts(0x33, 0, 0, old_count(was), 0, 0);
+        return sentences::say(
+            Happened::AwaitsHighByte,
+            facts.with(0x4, old_count(was) as u8),
+        );
     }
-    let count = now.count;
-    sentences::happened(
-        0x34,
-        [
-            0,
-            0,
-            0,
-            0,
-            takeover(now),
-            low(count),
-            high(count),
-            (count == 0) as u8,
-            0,
-            0,
-            0,
-            0,
-            0,
-            0,
-            0,
-            0,
-        ],
-        0,
-    )
+    let facts = facts
+        .with(0x4, taken_over(now) as u8)
+        .with_bytes(0x5, &now.count.to_le_bytes())
+        .with(0x7, now.count == 0);
+    sentences::say(Happened::Count, facts)
 }
 
-// The two bytes of a count.
-pub fn low(x: u16) -> u8 {
-    (x % 256) as u8
+// What half a count means for the one before it.
+#[derive(Clone, Copy)]
+enum OldCount {
+    None,
+    RunsOn,
+    // in mode 0 no pulse counts
+    Stopped,
+    // it did not run and stays the count to load: it was not taken over, or GATE is low
+    Stays,
 }
 
-pub fn high(x: u16) -> u8 {
-    (x / 256) as u8
-}
-
-// A sentence by its facts 2 to 6.
-fn four_facts(n: u8, two: u8, three: u8, four: u8, five: u8, six: u8) -> Text {
-    sentences::happened(
-        n,
-        [0, 0, two, three, four, five, six, 0, 0, 0, 0, 0, 0, 0, 0, 0],
-        0,
-    )
-}
-
-fn control(x: u8, latched: bool) -> u8 {
-    if x / 16 % 4 != 0 {
-        return 0x30;
-    }
-    if latched {
-        return 0x31;
-    }
-    0x32
-}
-
-// What half a count means for the one before it: 0 there is none, 1 it runs on, 2 in mode 0 no pulse counts, 3 it did not run and stays the count to load: it was not taken
-// over, or GATE is low.
-fn old_count(c: Counter) -> u8 {
-    let mode = c.mode;
-    if !c.full {
-        return 0;
-    }
-    match mode {
-        0 => 2,
-        1 => runs_on(c.pending),
-        5 => runs_on(c.pending),
-        _ => runs_on(c.pending | !c.gate),
+fn old_count(c: Counter) -> OldCount {
+    match c.mode {
+        _ if !c.full => OldCount::None,
+        0 => OldCount::Stopped,
+        _ if c.pending => OldCount::Stays,
+        1 | 5 => OldCount::RunsOn,
+        _ if c.gate => OldCount::RunsOn,
+        _ => OldCount::Stays,
     }
 }
 
-fn runs_on(stays: bool) -> u8 {
-    match stays {
-        true => 3,
-        false => 1,
-    }
+// When a count is taken over.
+#[derive(Clone, Copy)]
+enum Takeover {
+    AtNextPulse,
+    AfterGate,
+    AtEnd,
+    AtHalf,
 }
 
-// When a count is taken over: 0 at the next pulse, 1 after GATE rose, 2 at the end of the old one, 3 at the end of half of it.
-fn takeover(c: Counter) -> u8 {
-    let mode = c.mode;
-    if c.trigger {
-        return 0;
-    }
-    match mode {
-        1 => 1,
-        5 => 1,
-        _ => later(c.pending, c.gate, mode),
-    }
-}
-
-fn later(pending: bool, gate: bool, mode: u8) -> u8 {
-    if pending {
-        return 0;
-    }
-    if !gate {
-        return 1;
-    }
-    match mode {
-        3 => 3,
-        _ => 2,
+fn taken_over(c: Counter) -> Takeover {
+    match c.mode {
+        _ if c.trigger => Takeover::AtNextPulse,
+        1 | 5 => Takeover::AfterGate,
+        _ if c.pending => Takeover::AtNextPulse,
+        _ if !c.gate => Takeover::AfterGate,
+        3 => Takeover::AtHalf,
+        _ => Takeover::AtEnd,
     }
 }
 
 fn dma_words(after: Dma, port: u8, x: u8) -> Text {
     match port {
-        0x20 => sentences::happened(0x43 * (x % 2), [0u8; 16], 0),
-        0x22 => units_words(after, 0),
-        0x23 => units_words(after, 1),
-        0x24 => address_words(after),
-        0x25 => address_words(after),
-        0x26 => address_words(after),
-        0x28 => requested(after),
-        0x2f => requested(after),
+        0x20 if x % 2 == 1 => sentences::say(Happened::DmaReset, Facts::new()),
+        0x22 => units_words(after, false),
+        0x23 => units_words(after, true),
+        0x24..=0x26 => {
+            let address = chips::register(after, 0x24);
+            sentences::say(
+                Happened::DmaAddress,
+                Facts::new().with_bytes(0x4, &address.to_le_bytes()),
+            )
+        }
+        0x28 | 0x2f => requested(after),
         _ => Text::new(),
     }
 }
 
 // The count of the selected channel, and with its high byte how many units it stands for.
-fn units_words(after: Dma, whole: u8) -> Text {
-    let count = chips::register(after, 0x22);
-    let units = count % 65536 + 1;
-    sentences::happened(
-        0x40,
-        [
-            0,
-            0,
-            0,
-            0,
-            whole | ((units != 1) as u8) << 1 & whole << 1,
-            0,
-            0,
-            0,
-            (count % 256) as u8,
-            (count / 256 % 256) as u8,
-            (units % 256) as u8,
-            (units / 256 % 256) as u8,
-            (units / 65536 % 256) as u8,
-            0,
-            0,
-            0,
-        ],
-        0,
-    )
+fn units_words(after: Dma, whole: bool) -> Text {
+    let count = chips::register(after, 0x22) % 65536;
+    let units = count + 1;
+    let facts = Facts::new()
+        .with(0x4, u8::from(whole) | u8::from(whole && units != 1) << 1)
+        .with_bytes(0x8, &count.to_le_bytes())
+        .with_bytes(0xA, &units.to_le_bytes());
+    sentences::say(Happened::DmaCount, facts)
 }
 
-fn address_words(after: Dma) -> Text {
-    let a = chips::register(after, 0x24);
-    four_facts(
-        0x41,
-        0,
-        0,
-        (a % 256) as u8,
-        (a / 256 % 256) as u8,
-        (a / 65536 % 256) as u8,
-    )
-}
-
-// The channels that ask: those that may be served, and those that are masked.
+// The channels that ask: those that may be served, and those that are masked. That the chip is disabled is said where somebody asks.
 fn requested(d: Dma) -> Text {
-    let marked = chips::marks_of(d);
-    let free = d.requests & !marked.masked;
-    let held = d.requests & marked.masked;
-    let f = [
-        free,
-        which::how_many(free),
-        held,
-        which::how_many(held),
-        disabled(d.requests, d.disabled),
-        0,
-        0,
-        0,
-        0,
-        0,
-        0,
-        0,
-        0,
-        0,
-        0,
-        0,
-    ];
-    sentences::happened(0x42, f, 0)
-}
-
-// That the chip is disabled is said where somebody asks.
-fn disabled(requests: u8, disabled: bool) -> u8 {
-    match requests {
-        0 => 0,
-        _ => disabled as u8,
-    }
-}
-
-// A bit for each counter.
-fn three(a: bool, b: bool, c: bool) -> u8 {
-    a as u8 | (b as u8) << 1 | (c as u8) << 2
+    let masked = chips::marks_of(d).masked;
+    let free = d.requests & !masked;
+    let held = d.requests & masked;
+    let facts = Facts::new()
+        .with(0x0, free)
+        .with(0x1, how_many(free))
+        .with(0x2, held)
+        .with(0x3, how_many(held))
+        .with(0x4, d.disabled && d.requests != 0);
+    sentences::say(Happened::Requests, facts)
 }
 
 // A bit for each counter: its GATE, whether the next pulse loads it, and whether a low GATE keeps it from counting: once it has a count, in any mode but 1 and 5.
@@ -358,13 +215,10 @@ struct Gates {
 }
 
 fn gates_of(t: Timer) -> Gates {
-    let c0 = chips::counter(t, 0);
-    let c1 = chips::counter(t, 1);
-    let c2 = chips::counter(t, 2);
     Gates {
-        high: three(c0.gate, c1.gate, c2.gate),
-        loads: three(loads(c0), loads(c1), loads(c2)),
-        stands: three(stands_still(c0), stands_still(c1), stands_still(c2)),
+        high: flags(&t.counters, |c| c.gate),
+        loads: flags(&t.counters, |c| loads(*c)),
+        stands: flags(&t.counters, |c| stands_still(*c)),
     }
 }
 
@@ -378,40 +232,29 @@ fn gated(before: Timer, after: Timer) -> Text {
     let stops = fell & !now.loads;
     let goes = rose & !now.loads & now.stands;
     let later = fell & now.loads;
-    let f = [
-        starts,
-        which::how_many(starts),
-        stops,
-        which::how_many(stops),
-        goes,
-        which::how_many(goes),
-        later,
-        which::how_many(later),
-        0,
-        0,
-        0,
-        0,
-        0,
-        0,
-        0,
-        0,
-    ];
-    sentences::happened(0x50, f, 0)
+    let facts = Facts::new()
+        .with(0x0, starts)
+        .with(0x1, how_many(starts))
+        .with(0x2, stops)
+        .with(0x3, how_many(stops))
+        .with(0x4, goes)
+        .with(0x5, how_many(goes))
+        .with(0x6, later)
+        .with(0x7, how_many(later));
+    sentences::say(Happened::Gates, facts)
 }
 
 fn stands_still(c: Counter) -> bool {
-    let mode = c.mode;
-    match mode {
-        1 => false,
-        5 => false,
-        0 => c.full & !c.half,
+    match c.mode {
+        1 | 5 => false,
+        0 => c.full && !c.half,
         _ => c.full,
     }
 }
 
 // A trigger loads in any mode; a count that waits to be taken over does with any GATE, but in modes 1 and 5 it waits for a trigger.
 fn loads(c: Counter) -> bool {
-    c.trigger | (c.pending & stands_still(c))
+    c.trigger || c.pending && stands_still(c)
 }
 
 // At which pulses each OUT rose, and where the counters are.
@@ -419,13 +262,15 @@ fn advanced(before: Timer, after: Timer, pulses: u32) -> Text {
     let rises = rises_of(before, 0, pulses)
         .and(rises_of(before, 1, pulses))
         .and(rises_of(before, 2, pulses));
-    let values = value_of(after, 0)
+    let rises = if rises.is_empty() {
+        sentences::say(Happened::NoRise, Facts::new())
+    } else {
+        rises
+    };
+    rises
+        .and(value_of(after, 0))
         .and(value_of(after, 1))
-        .and(value_of(after, 2));
-    if rises.n == 0 {
-        return sentences::happened(0x62, [0u8; 16], 0).and(values);
-    }
-    rises.and(values)
+        .and(value_of(after, 2))
 }
 
 fn value_of(t: Timer, k: u8) -> Text {
@@ -433,134 +278,75 @@ fn value_of(t: Timer, k: u8) -> Text {
     if 5 < c.mode {
         return Text::new();
     }
-    sentences::happened(
-        0x61,
-        [
-            low(c.value),
-            high(c.value),
-            0,
-            0,
-            0,
-            0,
-            0,
-            0,
-            0,
-            0,
-            0,
-            0,
-            k,
-            0,
-            0,
-            0,
-        ],
-        0,
-    )
+    let facts = Facts::new()
+        .with_bytes(0x0, &c.value.to_le_bytes())
+        .with(0xC, k);
+    sentences::say(Happened::CounterAt, facts)
 }
 
 // The first three pulses of these that made an OUT rise, and how many others did.
 fn rises_of(t: Timer, k: u8, pulses: u32) -> Text {
     let c = chips::counter(t, k);
-    let ran = c.run(pulses);
-    let all = ran.rises;
+    let all = c.run(pulses).rises;
     if all == 0 {
         return Text::new();
     }
-    let one = pulse_of_rise(c, pulses, 1);
-    let two = pulse_of_rise(c, pulses, 2);
-    let three = pulse_of_rise(c, pulses, 3);
-    let f = [
-        (one % 256) as u8,
-        (one / 256 % 256) as u8,
-        0,
-        0,
-        (two % 256) as u8,
-        (two / 256 % 256) as u8,
-        0,
-        0,
-        (three % 256) as u8,
-        (three / 256 % 256) as u8,
-        0,
-        0,
-        k,
-        named(all),
-        (3 < all) as u8,
-        0,
-    ];
-    sentences::happened(0x60, f, more_than_three(all))
-}
-
-fn named(rises: u32) -> u8 {
-    match rises {
-        0 => 0,
+    let named = match all {
         1 => 1,
         2 => 2,
         _ => 3,
-    }
-}
-
-fn more_than_three(rises: u32) -> u64 {
-    if rises < 3 {
-        return 0;
-    }
-    (rises - 3) as u64
+    };
+    let facts = Facts::new()
+        .with_bytes(0x0, &pulse_of_rise(c, pulses, 1).to_le_bytes())
+        .with_bytes(0x4, &pulse_of_rise(c, pulses, 2).to_le_bytes())
+        .with_bytes(0x8, &pulse_of_rise(c, pulses, 3).to_le_bytes())
+        .with(0xC, k)
+        .with(0xD, named)
+        .with(0xE, 3 < all)
+        .with_number(u64::from(all.saturating_sub(3)));
+    sentences::say(Happened::Rises, facts)
 }
 
 // The least number of pulses in which OUT rises so often, found by halving; more than all of them where it does not.
 fn pulse_of_rise(c: Counter, pulses: u32, rises: u32) -> u32 {
     let mut low: u32 = 0;
     let mut high = pulses % 65536 + 1;
-    let mut turns: usize = 0;
-    while turns < 17 {
-        let middle = (low % 131072 + high % 131072) / 2;
-        let ran = c.run(middle);
-        if ran.rises < rises {
+    for _ in 0..17 {
+        let middle = low.midpoint(high);
+        if c.run(middle).rises < rises {
             low = middle;
         } else {
             high = middle;
         }
-        turns += 1;
     }
     high
 }
 
-// An interrupt chip seen from outside: the levels that ask, and INT.
+// What became of an INT: nothing to say, it rose, it fell; or it is low all the same though levels ask anew, or are masked no more.
 #[derive(Clone, Copy)]
-struct Seen {
-    irr: u8,
-    int: bool,
+enum Change {
+    None,
+    Rose,
+    Fell,
+    // the levels are masked
+    Masked,
+    // a level in service has the rank
+    Outranked,
+    NotReady,
+    // some are masked, and a level in service outranks the others
+    MaskedOrOutranked,
 }
 
-fn look_at(i: Icu, lines: u8) -> Seen {
-    Seen {
-        irr: i.irr(lines),
-        int: i.int(lines),
-    }
-}
-
-// What became of an INT: 0 nothing to say, 1 it rose, 2 it fell; low all the same though levels ask anew, or are masked no more: 3 they are masked, 4 a level in service has the
-// rank, 5 the chip is not ready, 6 some are masked and of the others 4 is true.
-fn change(was: bool, now: bool, anew: u8, stage: u8, asked: u8) -> u8 {
-    if now {
-        return match was {
-            true => 0,
-            false => 1,
-        };
-    }
-    if was {
-        return 2;
-    }
-    if anew == 0 {
-        return 0;
-    }
-    if stage != Icu::READY {
-        return 5;
-    }
-    match anew & asked {
-        0 => 3,
-        _ => match anew & !asked {
-            0 => 4,
-            _ => 6,
-        },
+fn change_of(was: bool, now: bool, anew: u8, stage: u8, asked: u8) -> Change {
+    match (was, now) {
+        (true, true) => Change::None,
+        (false, true) => Change::Rose,
+        (true, false) => Change::Fell,
+        _ if anew == 0 => Change::None,
+        _ if stage != Icu::READY => Change::NotReady,
+        _ if anew & asked == 0 => Change::Masked,
+        _ if anew & !asked == 0 => Change::Outranked,
+        _ => Change::MaskedOrOutranked,
     }
 }
 
@@ -571,98 +357,111 @@ fn outs_from(was: Timer, now: Timer) -> u8 {
 
 // OUT, but its rises in pulses, which were told; the levels that ask anew or no more; INT. An acknowledge tells of these itself.
 fn levels(before: Chips, after: Chips, r: Record) -> Text {
-    let op = r.op;
-    if op == 4 {
+    if r.operation() == Some(Op::Acknowledge) {
         return Text::new();
     }
-    let mut rises = outs_from(before.timer, after.timer);
-    if op == 5 {
-        rises = 0;
-    }
-    sentences::happened(0x10, level_facts(before, after, rises, r), 0)
+    sentences::say(Happened::Levels, level_facts(before, after, r))
 }
 
 // The lines of a chip that rose before it was ready, and of which it keeps nothing, in edge trigger. OUT0 at line 0 of the master is no matter of the record's.
-fn early_lines(before: Chips, after: Chips, op: u8, slave: bool) -> u8 {
+fn early_lines(before: Chips, after: Chips, slave: bool) -> u8 {
     let i = after.chip(slave);
     let lines = after.lines_of(slave);
-    if (op != 3) | (i.stage == Icu::READY) {
+    if i.stage == Icu::READY {
         return 0;
     }
     let rose = lines & !before.lines_of(slave) & !i.irr(lines);
-    match slave {
-        true => rose,
-        false => rose & 0xfe,
-    }
+    if slave { rose } else { rose & 0xfe }
 }
 
-fn level_facts(before: Chips, after: Chips, rises: u8, r: Record) -> [u8; 16] {
-    let told = told_levels(r.op, r.port, r.byte, 0x00);
-    let slave_told = told_levels(r.op, r.port, r.byte, 0x30);
+fn level_facts(before: Chips, after: Chips, r: Record) -> Facts {
+    let op = r.operation();
+    let rises = match op {
+        Some(Op::Advance) => 0,
+        _ => outs_from(before.timer, after.timer),
+    };
     let to_slave = r.port == 3;
-    let early = early_lines(before, after, r.op, to_slave);
-    let icu = after.icu;
-    let slave = after.slave;
-    let was = look_at(before.icu, before.lines);
-    let now = look_at(icu, after.lines);
-    let slave_was = look_at(before.slave, before.slaveintp);
-    let slave_now = look_at(slave, after.slaveintp);
-    let anew = now.irr & !was.irr & told;
-    let gone = (was.irr | ticks(before.timer, icu.stage, r)) & !now.irr & told;
-    let master = before.icu;
-    let other = before.slave;
-    let unmasked = now.irr & master.imr & !icu.imr & told;
-    let slave_unmasked = slave_now.irr & other.imr & !slave.imr & slave_told;
-    let slave_anew = slave_now.irr & !slave_was.irr & slave_told;
-    let slave_gone = slave_was.irr & !slave_now.irr & slave_told;
-    [
+    let early = match op {
+        Some(Op::Lines) => early_lines(before, after, to_slave),
+        _ => 0,
+    };
+    let master = requests_of(
+        before.icu,
+        before.lines,
+        after.icu,
+        after.lines,
+        told_levels(r, 0x00),
+        ticks(before.timer, after.icu.stage, r),
+    );
+    let slave = requests_of(
+        before.slave,
+        before.slaveintp,
+        after.slave,
+        after.slaveintp,
+        told_levels(r, 0x30),
+        0,
+    );
+    Facts::new()
+        .with(0x0, master.anew)
+        .with(0x1, how_many(master.anew))
+        .with(0x2, master.gone)
+        .with(0x3, how_many(master.gone))
+        .with(0x4, master.int as u8)
+        .with(0x5, master.service)
+        .with(0x6, slave.anew)
+        .with(0x7, how_many(slave.anew))
+        .with(0x8, slave.gone)
+        .with(0x9, how_many(slave.gone))
+        .with(0xA, slave.int as u8)
+        .with(0xB, rises)
+        .with(0xC, slave.service)
+        .with(0xD, outs_from(after.timer, before.timer))
+        .with(0xE, early)
+        .with(0xF, how_many(early) | u8::from(to_slave) << 2)
+}
+
+// What became of an interrupt chip's requests: the levels that ask anew, those that ask no more, INT, and the highest level in service.
+#[derive(Clone, Copy)]
+struct Requests {
+    anew: u8,
+    gone: u8,
+    int: Change,
+    service: u8,
+}
+
+// `told` has the levels that are told of, and `ticks` those that asked for a while.
+fn requests_of(was: Icu, old_lines: u8, now: Icu, lines: u8, told: u8, ticks: u8) -> Requests {
+    let old = was.irr(old_lines);
+    let irr = now.irr(lines);
+    let anew = irr & !old & told;
+    let unmasked = irr & was.imr & !now.imr & told;
+    Requests {
         anew,
-        which::how_many(anew),
-        gone,
-        which::how_many(gone),
-        change(
-            was.int,
-            now.int,
+        gone: (old | ticks) & !irr & told,
+        int: change_of(
+            was.int(old_lines),
+            now.int(lines),
             anew | unmasked,
-            icu.stage,
-            icu.asked(after.lines),
+            now.stage,
+            now.asked(lines),
         ),
-        icu::highest(icu.isr, icu.lowest),
-        slave_anew,
-        which::how_many(slave_anew),
-        slave_gone,
-        which::how_many(slave_gone),
-        change(
-            slave_was.int,
-            slave_now.int,
-            slave_anew | slave_unmasked,
-            slave.stage,
-            slave.asked(after.slaveintp),
-        ),
-        rises,
-        icu::highest(slave.isr, slave.lowest),
-        outs_from(after.timer, before.timer),
-        early,
-        which::how_many(early) | (to_slave as u8) << 2,
-    ]
+        service: icu::highest(now.isr, now.lowest).unwrap_or(Icu::LEVELS),
+    }
 }
 
 // 1 where OUT0 rose in the pulses of an advance, so that level 0 of a chip that is ready asked, if only for a while.
 fn ticks(t: Timer, stage: u8, r: Record) -> u8 {
     let c = chips::counter(t, 0);
-    let ran = c.run(r.pulses());
-    ((r.op == 5) & (stage == Icu::READY) & (0 < ran.rises)) as u8
+    let advances = r.operation() == Some(Op::Advance);
+    u8::from(advances && stage == Icu::READY && 0 < c.run(r.pulses % 65536).rises)
 }
 
 // Records that change the requests of a chip by themselves, a reset and its IW1, leave no level of it to be told of: 0 for them, and 255 for others. The chip is known by its
 // first port.
-fn told_levels(op: u8, port: u8, x: u8, first: u8) -> u8 {
-    match op {
-        0 => 0,
-        1 => match port ^ first {
-            0 => 255 * (1 - x / 16 % 2),
-            _ => 255,
-        },
+fn told_levels(r: Record, first: u8) -> u8 {
+    match r.operation() {
+        Some(Op::Reset) => 0,
+        Some(Op::Write) if r.port == first && r.byte / 16 % 2 == 1 => 0,
         _ => 255,
     }
 }

@@ -1,98 +1,73 @@
 // Which sentence says why a record was refused.
+use crate::chips::Manner;
 use icu::Icu;
+use sentences::Refused;
+use sentences::bytes::{Op, Record};
 
-// Status 2: the record by itself; `zero` says that bytes 3 to 7 are, and `open` what its port is open to: bit 0 writes, bit 1 reads.
-pub fn malformed(op: u8, x: u8, y: u8, zero: bool, open: u8, pulses: u8) -> u8 {
-    match op {
-        0 => 0x20,
-        1 => closed_port(open, zero, 0x21),
-        2 => match y {
-            0 => closed_port(open, zero, 0x22),
-            _ => 0x22,
+// Status 2: the record by itself.
+pub fn malformed(r: Record, m: Manner) -> Refused {
+    let zero = r.upper == 0 && r.pulses == 0;
+    match r.operation() {
+        Some(Op::Reset) => Refused::ResetBytes,
+        Some(Op::Write) if zero => closed_port(m),
+        Some(Op::Write) => Refused::WriteBytes,
+        Some(Op::Read) if zero && r.byte == 0 => closed_port(m),
+        Some(Op::Read) => Refused::ReadBytes,
+        Some(Op::Lines) if zero => match r.port {
+            0 => Refused::Intp0,
+            1 => Refused::Gates,
+            2 => Refused::Requests,
+            _ => Refused::NoGroup,
         },
-        3 => no_line(x, zero),
-        4 => 0x24,
-        5 => match pulses {
-            0 => 0x26,
-            _ => 0x25,
-        },
-        6 => match x / 2 {
-            0 => 0x28,
-            _ => 0x27,
-        },
-        _ => 0x29,
+        Some(Op::Lines) => Refused::LinesBytes,
+        Some(Op::Acknowledge) => Refused::AcknowledgeBytes,
+        Some(Op::Advance) if r.pulses < 65536 => Refused::AdvanceBytes,
+        Some(Op::Advance) => Refused::PulsesPastMost,
+        Some(Op::Cycle) if r.port < 2 => Refused::CycleBytes,
+        Some(Op::Cycle) => Refused::CycleEnd,
+        None => Refused::NoOperation,
     }
 }
 
 // A port that is not there, or there for the other direction alone.
-fn closed_port(open: u8, zero: bool, other: u8) -> u8 {
-    match zero {
-        true => match open {
-            0 => 0x2c,
-            2 => 0x2b,
-            _ => 0x2a,
-        },
-        false => other,
+fn closed_port(m: Manner) -> Refused {
+    match (m.writable, m.readable) {
+        (false, false) => Refused::NoPort,
+        (false, true) => Refused::OnlyRead,
+        (true, _) => Refused::OnlyWritten,
     }
 }
 
-fn no_line(group: u8, zero: bool) -> u8 {
-    match zero {
-        true => match group {
-            0 => 0x2d,
-            1 => 0x2e,
-            2 => 0x2f,
-            _ => 0x30,
-        },
-        false => 0x23,
+// Status 3: who waits for what. An interrupt chip awaits a word, or two are ready and not set up alike: one of them is `single` and the other not, or they differ in their modes.
+pub fn early(op: Option<Op>, port: u8, stage: u8, single: bool) -> Refused {
+    if op != Some(Op::Acknowledge) && 1 < port {
+        return match port {
+            0x13 => Refused::LatchBeforeMode,
+            _ => Refused::CountBeforeMode,
+        };
     }
-}
-
-// Status 3: who waits for what. An interrupt chip awaits a word, or two are ready and not set up alike; `apart` has the bits in which they differ.
-pub fn early(op: u8, port: u8, stage: u8, apart: u8) -> u8 {
-    let icu = match stage {
-        Icu::READY => match apart / 2 {
-            0 => 0x33,
-            _ => 0x32,
-        },
-        _ => 0x31,
-    };
-    match op {
-        4 => icu,
-        _ => match port {
-            0x00 => icu,
-            0x01 => icu,
-            0x13 => 0x34,
-            _ => 0x35,
-        },
+    match stage {
+        Icu::READY if single => Refused::ExtendedAndSingle,
+        Icu::READY => Refused::CallAndVector,
+        _ => Refused::IcuAwaits,
     }
 }
 
 // Status 4: what the board leaves out, by port and byte.
-pub fn unbuilt(port: u8, x: u8) -> u8 {
+pub fn unbuilt(port: u8, x: u8) -> Refused {
     match port {
-        0x00 => match x / 4 % 2 {
-            0 => 0x42,
-            _ => 0x41,
-        },
-        0x01 => 0x40,
-        0x13 => match x / 64 {
-            3 => 0x43,
-            _ => 0x44,
-        },
-        0x20 => 0x46,
-        0x28 => 0x47,
-        0x29 => 0x48,
-        0x2a => match x / 64 {
-            3 => 0x49,
-            _ => match x / 4 % 4 {
-                3 => 0x4a,
-                _ => match x / 2 % 2 {
-                    0 => 0x45,
-                    _ => 0x4b,
-                },
-            },
-        },
-        _ => 0x4c,
+        0x00 if x / 4 % 2 == 0 => Refused::Nesting,
+        0x00 => Refused::Polling,
+        0x01 => Refused::OtherSlaves,
+        0x13 if x / 64 == 3 => Refused::MultipleLatch,
+        0x13 => Refused::Bcd,
+        0x20 => Refused::NarrowBusUnderWords,
+        0x28 => Refused::DmaControl,
+        0x29 => Refused::DmaControlHigh,
+        0x2a if x / 64 == 3 => Refused::Cascade,
+        0x2a if x / 4 % 4 == 3 => Refused::Direction,
+        0x2a if x / 2 % 2 == 0 => Refused::WordsOnNarrowBus,
+        0x2a => Refused::ModeD1,
+        _ => Refused::DmaUnbuilt,
     }
 }

@@ -3,80 +3,63 @@ use crate::chips;
 use crate::chips::Chips;
 use dma::Dma;
 use icu::Icu;
-use sentences::{text, which};
+use notation::line::Chip;
+use sentences::which::Int;
+use sentences::{Facts, Shown, text};
 use timer::Timer;
 
-// All, or one chip: 1 the master, 2 the slave, 3 the timer, 4 the DMA chip.
-pub fn print(chips: Chips, which: u32) -> bool {
+// All, or one chip.
+pub fn print(chips: Chips, which: Chip) -> bool {
     match which {
-        1 => print_icu(chips.icu, chips.lines, false),
-        2 => print_icu(chips.slave, chips.slaveintp, true),
-        3 => print_timer(chips.timer),
-        4 => print_dma(chips.dma),
-        _ => print_icu(chips.icu, chips.lines, false)
-            && print_icu(chips.slave, chips.slaveintp, true)
-            && print_timer(chips.timer)
-            && print_dma(chips.dma),
+        Chip::Master => print_icu(chips.icu, chips.lines, false),
+        Chip::Slave => print_icu(chips.slave, chips.slaveintp, true),
+        Chip::Timer => print_timer(chips.timer),
+        Chip::Dma => print_dma(chips.dma),
+        Chip::All => {
+            print_icu(chips.icu, chips.lines, false)
+                && print_icu(chips.slave, chips.slaveintp, true)
+                && print_timer(chips.timer)
+                && print_dma(chips.dma)
+        }
     }
+}
+
+fn print_sentence(sentence: Shown, facts: Facts) -> bool {
+    text::print_below(sentences::say(sentence, facts))
 }
 
 fn print_icu(i: Icu, lines: u8, slave: bool) -> bool {
     let irr = i.irr(lines);
-    let asked = i.asked(lines);
-    let int = i.int(lines);
-    let cause = match int {
-        true => 3,
-        false => which::cause_of_low(irr, asked),
+    let (int, level) = match i.interrupting(lines) {
+        Some(level) => (Int::High, Some(level)),
+        None => (Int::low(irr, i.asked(lines)), icu::highest(i.isr, i.lowest)),
     };
-    let level = match int {
-        true => icu::highest(asked, i.lowest),
-        false => icu::highest(i.isr, i.lowest),
-    };
-    let f = [
-        slave as u8,
-        i.isr,
-        irr,
-        i.imr,
-        cause,
-        level,
-        i.stage,
-        0,
-        0,
-        0,
-        0,
-        0,
-        0,
-        0,
-        0,
-        0,
-    ];
+    let facts = Facts::new()
+        .with(0x0, slave)
+        .with(0x1, i.isr)
+        .with(0x2, irr)
+        .with(0x3, i.imr)
+        .with(0x4, int as u8)
+        .with(0x5, level.unwrap_or(Icu::LEVELS))
+        .with(0x6, i.stage);
     if i.stage != Icu::READY {
-        return text::print_below(sentences::shown(1, f));
+        return print_sentence(Shown::IcuAwaits, facts);
     }
-    text::print_below(sentences::shown(0, f)) && print_set_up(i, slave)
+    print_sentence(Shown::Icu, facts) && print_set_up(i, slave)
 }
 
 // How an interrupt chip that is ready was set up, and how it ranks.
 fn print_set_up(i: Icu, slave: bool) -> bool {
-    let f = [
-        slave as u8,
-        0,
-        0,
-        0,
-        0,
-        0,
-        0,
-        i.iw1,
-        i.iw2 & 0xf8,
-        i.vector as u8,
-        i.lowest,
-        i.showsisr as u8,
-        i.sfi as u8,
-        i.rotation as u8,
-        0,
-        0,
-    ];
-    text::print_below(sentences::shown(7, f))
+    let facts = Facts::new()
+        .with(0x0, slave)
+        .with(0x7, i.iw1)
+        .with(0x8, i.iw2 & 0xf8)
+        .with(0x9, i.vector)
+        .with(0xA, i.lowest)
+        .with(0xB, i.showsisr)
+        .with(0xC, i.sfi)
+        .with(0xD, i.rotation);
+    print_sentence(Shown::SetUp, facts)
 }
 
 fn print_timer(t: Timer) -> bool {
@@ -85,49 +68,39 @@ fn print_timer(t: Timer) -> bool {
 
 fn print_counter(t: Timer, k: u8) -> bool {
     let c = chips::counter(t, k);
-    let reads = c.latched as u8 | (c.half as u8) << 1 | (c.second as u8) << 2;
-    let waits = (c.pending as u8) << 3 | (c.trigger as u8) << 4;
-    let f = [
-        (c.value % 256) as u8,
-        (c.value / 256 % 256) as u8,
-        (c.count % 256) as u8,
-        (c.count / 256 % 256) as u8,
-        c.mode,
-        c.out as u8,
-        c.gate as u8,
-        (c.latch % 256) as u8,
-        (c.latch / 256 % 256) as u8,
-        reads | waits,
-        c.full as u8,
-        0,
-        k,
-        0,
-        0,
-        0,
-    ];
-    text::print_below(sentences::shown(2 | (5 < c.mode) as u8, f))
+    let holds = chips::flags(
+        &[c.latched, c.half, c.second, c.pending, c.trigger],
+        |held| *held,
+    );
+    let facts = Facts::new()
+        .with_bytes(0x0, &c.value.to_le_bytes())
+        .with_bytes(0x2, &c.count.to_le_bytes())
+        .with(0x4, c.mode)
+        .with(0x5, c.out)
+        .with(0x6, c.gate)
+        .with_bytes(0x7, &c.latch.to_le_bytes())
+        .with(0x9, holds)
+        .with(0xA, c.full)
+        .with(0xC, k);
+    print_sentence(
+        if c.mode < 6 {
+            Shown::Counter
+        } else {
+            Shown::CounterWithoutMode
+        },
+        facts,
+    )
 }
 
 fn print_dma(d: Dma) -> bool {
-    let f = [
-        d.wide as u8,
-        d.disabled as u8,
-        d.requests,
-        d.ends,
-        d.serving as u8,
-        d.channel,
-        0,
-        0,
-        0,
-        0,
-        0,
-        0,
-        0,
-        0,
-        0,
-        0,
-    ];
-    text::print_below(sentences::shown(5, f))
+    let facts = Facts::new()
+        .with(0x0, d.wide)
+        .with(0x1, d.disabled)
+        .with(0x2, d.requests)
+        .with(0x3, d.ends)
+        .with(0x4, d.serving)
+        .with(0x5, d.channel);
+    print_sentence(Shown::Dma, facts)
         && print_channel(d, 0)
         && print_channel(d, 1)
         && print_channel(d, 2)
@@ -136,29 +109,13 @@ fn print_dma(d: Dma) -> bool {
 
 fn print_channel(d: Dma, k: u8) -> bool {
     let c = chips::channel(d, k);
-    let current = c.current;
-    let base = c.base;
-    let at = current.address;
-    let from = base.address;
-    let left = current.count;
-    let all = base.count;
-    let f = [
-        (at % 256) as u8,
-        (at / 256 % 256) as u8,
-        (at / 65536 % 256) as u8,
-        0,
-        (from % 256) as u8,
-        (from / 256 % 256) as u8,
-        (from / 65536 % 256) as u8,
-        0,
-        (left % 256) as u8,
-        (left / 256 % 256) as u8,
-        (all % 256) as u8,
-        (all / 256 % 256) as u8,
-        k,
-        c.masked as u8,
-        c.mode,
-        0,
-    ];
-    text::print_below(sentences::shown(4, f))
+    let facts = Facts::new()
+        .with_bytes(0x0, &c.current.address.to_le_bytes())
+        .with_bytes(0x4, &c.base.address.to_le_bytes())
+        .with_bytes(0x8, &c.current.count.to_le_bytes())
+        .with_bytes(0xA, &c.base.count.to_le_bytes())
+        .with(0xC, k)
+        .with(0xD, c.masked)
+        .with(0xE, c.mode);
+    print_sentence(Shown::Channel, facts)
 }

@@ -3,8 +3,8 @@ use Prim.Native.Nat.{◌-◌, ◌≤◌}
 use Rattle.icu.specs.Ranks.{highest_from, highest_of}
 use Rattle.icu.proofs.highest_by_steps.Given as goal
 
-abbrev pub invariant-loop-k : goal.invariant-loop-k
-invariant-loop-k l = (l.k ≤ 8) × (highest_from l.x l.lowest l.k (8 - l.k) ≡ highest_of l.x l.lowest)
+abbrev pub invariant-loop-rank : goal.invariant-loop-rank
+invariant-loop-rank l = (l.rank ≤ 8) × (highest_from l.x l.lowest l.rank (8 - l.rank) ≡ highest_of l.x l.lowest)
 
-abbrev pub decreases-loop-k : goal.decreases-loop-k
-decreases-loop-k l = 8 - l.k
+abbrev pub decreases-loop-rank : goal.decreases-loop-rank
+decreases-loop-rank l = 8 - l.rank

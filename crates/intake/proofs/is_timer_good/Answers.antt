@@ -1,14 +1,15 @@
-use Rattle.intake.specs.Ranges.{timer_good}
+use mathlib.Core.Path.{◌∙◌}
+use borrow.Author.Rules.{rules}
+use Rattle.std.proofs.Common.{tests}
+use Rattle.std.proofs.lemmas.Iterator.{YieldsList-from_slice}
+use Rattle.std.proofs.lemmas.Iterator.Search.{all_from_yields_List}
+use Rattle.timer.specs.Timer.{blank}
+use Rattle.intake.specs.Ranges.{counter_good, timer_good}
+use Rattle.intake.proofs.Each.{three}
 use Rattle.intake.proofs.is_timer_good.Goals as goal
-
-pub returns-then-is_counter_good-2 : goal.returns-then-is_counter_good-2
-unfolding timer_good
-returns-then-is_counter_good-2 c = rw (c.is_counter_good-then-is_counter_good-2.ensures, ← c.is_counter_good.ensures, c.if-is_counter_good.true, ← c.is_counter_good-then-is_counter_good.ensures, c.if-is_counter_good-2.true)
-
-pub returns-then-is_counter_good : goal.returns-then-is_counter_good
-unfolding timer_good
-returns-then-is_counter_good c = rw (← c.is_counter_good.ensures, c.if-is_counter_good.true, ← c.is_counter_good-then-is_counter_good.ensures, c.if-is_counter_good-2.false)
 
 pub returns : goal.returns
 unfolding timer_good
-returns c = rw (← c.is_counter_good.ensures, c.if-is_counter_good.false)
+returns c =
+    all_from_yields_List counter_good _ _ _ c.all.ensures.ran (YieldsList-from_slice c.args.t.counters cc) (λ x b q k. search (rules, tests))
+    ∙ three counter_good blank c.args.t.counters (search rules)

@@ -1,12 +1,17 @@
 use mathlib.Core.Path.{◌∙◌}
+use Prim.Native.Nat.{◌+◌, ◌*◌}
+use borrow.Author.Rules.{rules}
+use lib.ListN.{get_or}
+use Rattle.std.proofs.Common.{tests}
+use Rattle.tape.proofs.Made.{made}
 use Rattle.intake.proofs.Calls.{none_left}
-use borrow.Author.Tests.{ne_eqb}
-use Rattle.intake.specs.Records.{rest_at}
+use Rattle.intake.proofs.Rest.{same}
 use Rattle.intake.proofs.rest_at.Goals as goal
 
 pub returns-then-at-total : goal.returns-then-at-total
-returns-then-at-total c = none_left _ _ (c.if-at-total.true ∙ c.count_bytes-total.ensures.value)
+returns-then-at-total c = none_left _ _ (c.if-at-total.true ∙ c.count_bytes-total.ensures)
 
 pub returns : goal.returns
-unfolding rest_at
-returns c = simp (c.byte_at-b6.ensures, c.byte_at-b5.ensures, c.byte_at-b4.ensures, c.byte_at-b3.ensures, c.byte_at-b2.ensures, c.byte_at-b1.ensures, c.byte_at-b0.ensures, ← c.count_bytes-total.ensures.value, ← c.count_bytes-total.ensures.value_2, ne_eqb _ _ c.if-at-total.false)
+returns c =
+    same _ _ c.args.i c.from_fn.ensures.items.long
+    (made _ _ _ (λ j. get_or c.args.input.now (8 * c.args.i + j) 0) (λ i y q k. search (rules, tests)) c.from_fn.ensures.items)

@@ -1,22 +1,38 @@
-use borrow.Author.Rules.{rules}
-use Rattle.tape.proofs.Ports.{readable_is}
-use borrow.Author.Tests.{eq-eqb, le-leb, le-ltb, lt-leb, lt-ltb, ne_eqb}
+use mathlib.Core.Bool.{true, false}
+use native.Mathlib.Omega.{arith}
+use Rattle.bits.specs.Choice.{every}
+use Rattle.tape.specs.Records.{readable}
+use Rattle.tape.proofs.Ports.{steady}
 use Rattle.tape.proofs.is_readable.Goals as goal
 
-pub returns-then-port-lt-ICU_END : goal.returns-then-port-lt-ICU_END
-returns-then-port-lt-ICU_END c = rw (readable_is c.args.port (search rules), lt-ltb _ _ c.if-port-lt-ICU_END.true)
+pub returns-in-0-to-1 : goal.returns-in-0-to-1
+unfolding readable every
+returns-in-0-to-1 c = steady readable true 0 2 tt c.args.port (omega arith) (omega arith)
 
-pub returns-then-port-lt-TIMER : goal.returns-then-port-lt-TIMER
-returns-then-port-lt-TIMER c = rw (readable_is c.args.port (search rules), le-ltb _ _ c.if-port-lt-ICU_END.false, lt-ltb _ _ c.if-port-lt-TIMER.true)
+pub returns-in-0-to-1-2 : goal.returns-in-0-to-1-2
+unfolding readable every
+returns-in-0-to-1-2 c = steady readable true 16 3 tt c.args.port (omega arith) (omega arith)
 
-pub returns-then-port-lt-TIMER_CONTROL : goal.returns-then-port-lt-TIMER_CONTROL
-returns-then-port-lt-TIMER_CONTROL c = rw (readable_is c.args.port (search rules), le-ltb _ _ c.if-port-lt-ICU_END.false, le-ltb _ _ c.if-port-lt-TIMER.false, lt-ltb _ _ c.if-port-lt-TIMER_CONTROL.true)
+pub returns-in-0-to-1-3 : goal.returns-in-0-to-1-3
+unfolding readable every
+returns-in-0-to-1-3 c = steady readable true 33 6 tt c.args.port (omega arith) (omega arith)
 
-pub returns-then-port-le-DMA : goal.returns-then-port-le-DMA
-returns-then-port-le-DMA c = rw (readable_is c.args.port (search rules), le-ltb _ _ c.if-port-lt-ICU_END.false, le-ltb _ _ c.if-port-lt-TIMER.false, le-ltb _ _ c.if-port-lt-TIMER_CONTROL.false, le-leb _ _ c.if-port-le-DMA.true)
+pub returns-in-0-to-1-4 : goal.returns-in-0-to-1-4
+unfolding readable every
+returns-in-0-to-1-4 c = steady readable true 40 10 tt c.args.port (omega arith) (omega arith)
 
-pub returns-then-port-eq-DMA_GAP : goal.returns-then-port-eq-DMA_GAP
-returns-then-port-eq-DMA_GAP c = rw (readable_is c.args.port (search rules), le-ltb _ _ c.if-port-lt-ICU_END.false, le-ltb _ _ c.if-port-lt-TIMER.false, le-ltb _ _ c.if-port-lt-TIMER_CONTROL.false, lt-leb _ _ c.if-port-le-DMA.false, eq-eqb _ _ c.if-port-eq-DMA_GAP.true)
+pub returns-in_default : goal.returns-in_default
+unfolding readable every
+returns-in_default c = steady readable false 2 14 tt c.args.port (omega arith) (omega arith)
 
-pub returns : goal.returns
-returns c = rw (readable_is c.args.port (search rules), le-ltb _ _ c.if-port-lt-ICU_END.false, le-ltb _ _ c.if-port-lt-TIMER.false, le-ltb _ _ c.if-port-lt-TIMER_CONTROL.false, lt-leb _ _ c.if-port-le-DMA.false, ne_eqb _ _ c.if-port-eq-DMA_GAP.false)
+pub returns-in_default-2 : goal.returns-in_default-2
+unfolding readable every
+returns-in_default-2 c = steady readable false 19 14 tt c.args.port (omega arith) (omega arith)
+
+pub returns-in_default-3 : goal.returns-in_default-3
+unfolding readable every
+returns-in_default-3 c = steady readable false 39 1 tt c.args.port (omega arith) (omega arith)
+
+pub returns-in_default-4 : goal.returns-in_default-4
+unfolding readable every
+returns-in_default-4 c = steady readable false 50 206 tt c.args.port (omega arith) (omega arith)

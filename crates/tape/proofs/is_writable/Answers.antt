@@ -1,25 +1,46 @@
-use borrow.Author.Rules.{rules}
-use Rattle.tape.proofs.Ports.{writable_is}
-use borrow.Author.Tests.{eq-eqb, le-ltb, lt-ltb, ne_eqb}
+use mathlib.Core.Bool.{true, false}
+use native.Mathlib.Omega.{arith}
+use Rattle.bits.specs.Choice.{every}
+use Rattle.tape.specs.Records.{writable}
+use Rattle.tape.proofs.Ports.{steady}
 use Rattle.tape.proofs.is_writable.Goals as goal
 
-pub returns-then-port-lt-ICU_END : goal.returns-then-port-lt-ICU_END
-returns-then-port-lt-ICU_END c = rw (writable_is c.args.port (search rules), lt-ltb _ _ c.if-port-lt-ICU_END.true)
+pub returns-in-0-to-1 : goal.returns-in-0-to-1
+unfolding writable every
+returns-in-0-to-1 c = steady writable true 0 2 tt c.args.port (omega arith) (omega arith)
 
-pub returns-then-port-lt-TIMER : goal.returns-then-port-lt-TIMER
-returns-then-port-lt-TIMER c = rw (writable_is c.args.port (search rules), le-ltb _ _ c.if-port-lt-ICU_END.false, lt-ltb _ _ c.if-port-lt-TIMER.true)
+pub returns-in-0-to-1-2 : goal.returns-in-0-to-1-2
+unfolding writable every
+returns-in-0-to-1-2 c = steady writable true 16 4 tt c.args.port (omega arith) (omega arith)
 
-pub returns-then-port-lt-TIMER_END : goal.returns-then-port-lt-TIMER_END
-returns-then-port-lt-TIMER_END c = rw (writable_is c.args.port (search rules), le-ltb _ _ c.if-port-lt-ICU_END.false, le-ltb _ _ c.if-port-lt-TIMER.false, lt-ltb _ _ c.if-port-lt-TIMER_END.true)
+pub returns-in-0-to-1-3 : goal.returns-in-0-to-1-3
+unfolding writable every
+returns-in-0-to-1-3 c = steady writable true 32 7 tt c.args.port (omega arith) (omega arith)
 
-pub returns-then-port-lt-DMA : goal.returns-then-port-lt-DMA
-returns-then-port-lt-DMA c = rw (writable_is c.args.port (search rules), le-ltb _ _ c.if-port-lt-ICU_END.false, le-ltb _ _ c.if-port-lt-TIMER.false, le-ltb _ _ c.if-port-lt-TIMER_END.false, lt-ltb _ _ c.if-port-lt-DMA.true)
+pub returns-in-0-to-1-4 : goal.returns-in-0-to-1-4
+unfolding writable every
+returns-in-0-to-1-4 c = steady writable true 40 3 tt c.args.port (omega arith) (omega arith)
 
-pub returns-then-port-eq-DMA_GAP : goal.returns-then-port-eq-DMA_GAP
-returns-then-port-eq-DMA_GAP c = rw (writable_is c.args.port (search rules), le-ltb _ _ c.if-port-lt-ICU_END.false, le-ltb _ _ c.if-port-lt-TIMER.false, le-ltb _ _ c.if-port-lt-TIMER_END.false, le-ltb _ _ c.if-port-lt-DMA.false, eq-eqb _ _ c.if-port-eq-DMA_GAP.true)
+pub returns-in-0-to-1-5 : goal.returns-in-0-to-1-5
+unfolding writable every
+returns-in-0-to-1-5 c = steady writable true 44 6 tt c.args.port (omega arith) (omega arith)
 
-pub returns-then-port-eq-DMA_STATUS : goal.returns-then-port-eq-DMA_STATUS
-returns-then-port-eq-DMA_STATUS c = rw (writable_is c.args.port (search rules), le-ltb _ _ c.if-port-lt-ICU_END.false, le-ltb _ _ c.if-port-lt-TIMER.false, le-ltb _ _ c.if-port-lt-TIMER_END.false, le-ltb _ _ c.if-port-lt-DMA.false, ne_eqb _ _ c.if-port-eq-DMA_GAP.false, eq-eqb _ _ c.if-port-eq-DMA_STATUS.true)
+pub returns-in_default : goal.returns-in_default
+unfolding writable every
+returns-in_default c = steady writable false 2 14 tt c.args.port (omega arith) (omega arith)
 
-pub returns : goal.returns
-returns c = rw (writable_is c.args.port (search rules), le-ltb _ _ c.if-port-lt-ICU_END.false, le-ltb _ _ c.if-port-lt-TIMER.false, le-ltb _ _ c.if-port-lt-TIMER_END.false, le-ltb _ _ c.if-port-lt-DMA.false, ne_eqb _ _ c.if-port-eq-DMA_GAP.false, ne_eqb _ _ c.if-port-eq-DMA_STATUS.false)
+pub returns-in_default-2 : goal.returns-in_default-2
+unfolding writable every
+returns-in_default-2 c = steady writable false 20 12 tt c.args.port (omega arith) (omega arith)
+
+pub returns-in_default-3 : goal.returns-in_default-3
+unfolding writable every
+returns-in_default-3 c = steady writable false 39 1 tt c.args.port (omega arith) (omega arith)
+
+pub returns-in_default-4 : goal.returns-in_default-4
+unfolding writable every
+returns-in_default-4 c = steady writable false 43 1 tt c.args.port (omega arith) (omega arith)
+
+pub returns-in_default-5 : goal.returns-in_default-5
+unfolding writable every
+returns-in_default-5 c = steady writable false 50 206 tt c.args.port (omega arith) (omega arith)

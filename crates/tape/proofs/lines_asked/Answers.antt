@@ -1,35 +1,32 @@
-use borrow.Author.Tests.{eq-eqb, le-ltb, lt-ltb, ne_eqb}
+use borrow.Author.Tests.{ne_eqb}
+use native.Mathlib.Omega.{arith}
+use mathlib.Core.Logic.{◌≢◌}
 use Rattle.tape.specs.Records.{lines_asked}
+use Rattle.tape.proofs.Decodes.{told}
 use Rattle.tape.proofs.lines_asked.Goals as goal
 
-pub returns-then-levels-eq0 : goal.returns-then-levels-eq0
+pub returns-in-0 : goal.returns-in-0
 unfolding lines_asked
-returns-then-levels-eq0 c = rw (eq-eqb _ _ c.if-group-eq0.true, eq-eqb _ _ c.if-levels-eq0.true)
+returns-in-0 c = rw (c.then_some.ensures, told, c.in-0.is)
 
-pub returns-then-group-eq0 : goal.returns-then-group-eq0
+pub returns-in-1 : goal.returns-in-1
 unfolding lines_asked
-returns-then-group-eq0 c = rw (eq-eqb _ _ c.if-group-eq0.true, ne_eqb _ _ c.if-levels-eq0.false)
+returns-in-1 c = rw (c.then_some-in-1.ensures, told, c.in-1.is)
 
-pub returns-then-levels-lt8 : goal.returns-then-levels-lt8
+pub returns-in-2 : goal.returns-in-2
 unfolding lines_asked
-returns-then-levels-lt8 c = rw (ne_eqb _ _ c.if-group-eq0.false, eq-eqb _ _ c.if-group-eq1.true, lt-ltb _ _ c.if-levels-lt8.true)
+returns-in-2 c = rw (c.then_some-in-2.ensures, told, c.in-2.is)
 
-pub returns-then-group-eq1 : goal.returns-then-group-eq1
+pub returns-in-3 : goal.returns-in-3
 unfolding lines_asked
-returns-then-group-eq1 c = rw (ne_eqb _ _ c.if-group-eq0.false, eq-eqb _ _ c.if-group-eq1.true, le-ltb _ _ c.if-levels-lt8.false)
+returns-in-3 c = rw c.in-3.is
 
-pub returns-then-levels-lt16 : goal.returns-then-levels-lt16
+pub returns-in_default : goal.returns-in_default
 unfolding lines_asked
-returns-then-levels-lt16 c = rw (ne_eqb _ _ c.if-group-eq0.false, ne_eqb _ _ c.if-group-eq1.false, eq-eqb _ _ c.if-group-eq2.true, lt-ltb _ _ c.if-levels-lt16.true)
-
-pub returns-then-group-eq2 : goal.returns-then-group-eq2
-unfolding lines_asked
-returns-then-group-eq2 c = rw (ne_eqb _ _ c.if-group-eq0.false, ne_eqb _ _ c.if-group-eq1.false, eq-eqb _ _ c.if-group-eq2.true, le-ltb _ _ c.if-levels-lt16.false)
-
-pub returns-then-group-eq3 : goal.returns-then-group-eq3
-unfolding lines_asked
-returns-then-group-eq3 c = rw (ne_eqb _ _ c.if-group-eq0.false, ne_eqb _ _ c.if-group-eq1.false, ne_eqb _ _ c.if-group-eq2.false, eq-eqb _ _ c.if-group-eq3.true)
-
-pub returns : goal.returns
-unfolding lines_asked
-returns c = rw (ne_eqb _ _ c.if-group-eq0.false, ne_eqb _ _ c.if-group-eq1.false, ne_eqb _ _ c.if-group-eq2.false, ne_eqb _ _ c.if-group-eq3.false)
+returns-in_default c =
+    let g = c.args.group in
+    let n0 : g ≢ 0 = omega arith in
+    let n1 : g ≢ 1 = omega arith in
+    let n2 : g ≢ 2 = omega arith in
+    let n3 : g ≢ 3 = omega arith in
+    rw (ne_eqb _ _ n0, ne_eqb _ _ n1, ne_eqb _ _ n2, ne_eqb _ _ n3)

@@ -4,4 +4,4 @@ use Rattle.board.proofs.Board.pass_on.Goals as goal
 
 pub returns : goal.returns
 unfolding slave_gives answered_of
-returns c = rw (c.tell_turn.ensures, c.follow-seen.ensures, c.serve-next.ensures, c.acknowledge-t.ensures)
+returns c = rw (c.tell_turn.ensures, c.follow.ensures, c.serve.ensures, c.acknowledge-t.ensures)

@@ -4,4 +4,4 @@ use Rattle.board.proofs.Board.step_advance.Goals as goal
 
 pub returns : goal.returns
 unfolding advance_of answered_of
-returns c = rw (c.tell.ensures, c.rises_payload.ensures, c.run_pulses-a.ensures, c.join.ensures)
+returns c = rw (c.tell.ensures, c.rises_payload.ensures, c.run_pulses-a.ensures, c.join-joined.ensures)

@@ -4,4 +4,4 @@ use Rattle.board.proofs.Board.step_gates.Goals as goal
 
 pub returns : goal.returns
 unfolding answered_of gates_of
-returns c = rw (c.tell.ensures, c.follow-seen.ensures, c.set_gates-next.ensures)
+returns c = rw (c.tell.ensures, c.follow.ensures, c.set_gates.ensures)

@@ -1,20 +1,27 @@
+use Prim.Native.Nat.{◌/◌}
+use mathlib.Core.Logic.{◌≢◌}
+use native.Mathlib.Omega.{arith}
+use borrow.Author.Tests.{ne_eqb}
 use Rattle.board.specs.Step.{answered_of}
-use borrow.Author.Tests.{eq-eqb, ne_eqb}
 use Rattle.board.specs.Operations.{read_of}
 use Rattle.board.proofs.Board.step_read.Goals as goal
 
-pub returns-then-chip-eq0 : goal.returns-then-chip-eq0
+pub returns-in-0 : goal.returns-in-0
 unfolding read_of answered_of
-returns-then-chip-eq0 c = rw (c.read_master.ensures, eq-eqb _ _ c.if-chip-eq0.true)
+returns-in-0 c = rw (c.read_master.ensures, c.in-0.is)
 
-pub returns-then-chip-eq1 : goal.returns-then-chip-eq1
+pub returns-in-1 : goal.returns-in-1
 unfolding read_of answered_of
-returns-then-chip-eq1 c = rw (c.read_timer.ensures, ne_eqb _ _ c.if-chip-eq0.false, eq-eqb _ _ c.if-chip-eq1.true)
+returns-in-1 c = rw (c.read_timer.ensures, c.in-1.is)
 
-pub returns-then-chip-eq2 : goal.returns-then-chip-eq2
+pub returns-in-2 : goal.returns-in-2
 unfolding read_of answered_of
-returns-then-chip-eq2 c = rw (c.read_dma.ensures, ne_eqb _ _ c.if-chip-eq0.false, ne_eqb _ _ c.if-chip-eq1.false, eq-eqb _ _ c.if-chip-eq2.true)
+returns-in-2 c = rw (c.read_dma.ensures, c.in-2.is)
 
-pub returns : goal.returns
+pub returns-in_default : goal.returns-in_default
 unfolding read_of answered_of
-returns c = rw (c.read_slave.ensures, ne_eqb _ _ c.if-chip-eq0.false, ne_eqb _ _ c.if-chip-eq1.false, ne_eqb _ _ c.if-chip-eq2.false)
+returns-in_default c =
+    let n0 : c.args.port / 16 ≢ 0 = omega arith in
+    let n1 : c.args.port / 16 ≢ 1 = omega arith in
+    let n2 : c.args.port / 16 ≢ 2 = omega arith in
+    rw (c.read_slave.ensures, ne_eqb _ _ n0, ne_eqb _ _ n1, ne_eqb _ _ n2)

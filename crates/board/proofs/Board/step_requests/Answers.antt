@@ -4,4 +4,4 @@ use Rattle.board.proofs.Board.step_requests.Goals as goal
 
 pub returns : goal.returns
 unfolding answered_of requested_of
-returns c = rw (c.tell.ensures, c.set_requests-next.ensures)
+returns c = rw (c.tell.ensures, c.set_requests.ensures)

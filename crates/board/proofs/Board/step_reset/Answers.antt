@@ -4,4 +4,4 @@ use Rattle.board.proofs.Board.step_reset.Goals as goal
 
 pub returns : goal.returns
 unfolding fresh_of answered_of
-returns c = rw (c.tell.ensures, c.reset-next.ensures)
+returns c = rw (c.tell.ensures, c.reset.ensures)

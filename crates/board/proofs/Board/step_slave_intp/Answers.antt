@@ -3,4 +3,4 @@ use Rattle.board.proofs.Board.step_slave_intp.Goals as goal
 
 pub returns : goal.returns
 unfolding answered_of
-returns c = rw (c.tell.ensures, c.follow-seen.ensures, c.lines-next.ensures)
+returns c = rw (c.tell.ensures, c.follow.ensures, c.lines.ensures)

@@ -3,4 +3,4 @@ use Rattle.board.proofs.Board.tell.Goals as goal
 
 pub returns : goal.returns
 unfolding answered_of
-returns c = rw (c.answer.ensures, c.levels-levels.ensures)
+returns c = rw (c.answer.ensures, c.levels.ensures)

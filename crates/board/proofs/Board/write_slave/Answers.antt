@@ -9,7 +9,7 @@ pub returns-then-t-eq0 : goal.returns-then-t-eq0
 unfolding slave_written answered_of
 returns-then-t-eq0 c =
     let w = c.write_icu-t.ensures in
-    rw (c.tell.ensures, c.follow-seen.ensures, w, eq-eqb _ _ (sym (ap (λ (t : Turn). t.status) w) ∙ c.if-t-eq0.true))
+    rw (c.tell.ensures, c.follow.ensures, w, eq-eqb _ _ (sym (ap (λ (t : Turn). t.status) w) ∙ c.if-t-eq0.true))
 
 pub returns : goal.returns
 unfolding slave_written answered_of

@@ -1,8 +1,5 @@
-use Prim.Native.Nat.{◌-◌}
+use Rattle.std.proofs.Common.{length, ◌+◌}
 use Rattle.sentences.proofs.text.print_rest.Given as goal
 
-abbrev pub invariant-loop-turns : goal.invariant-loop-turns
-invariant-loop-turns l = Unit {0}
-
-abbrev pub decreases-loop-turns : goal.decreases-loop-turns
-decreases-loop-turns l = 400 - l.turns
+abbrev pub decreases-loop-asked : goal.decreases-loop-asked
+decreases-loop-asked l = length l.asked + length l.answer

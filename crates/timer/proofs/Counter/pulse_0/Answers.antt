@@ -1,23 +1,16 @@
-use borrow.Author.Tests.{eq-eqb, ne_eqb}
 use Rattle.timer.specs.Mode0.{pulse0}
+use Rattle.timer.proofs.Pulses.{unset, set}
+use Rattle.timer.proofs.Counter.pulse_0.Goals.{else-self-2-via-then-self-2+else-not-self, else-self-2-via-else-self-2}
 use Rattle.timer.proofs.Counter.pulse_0.Goals as goal
 
-pub returns-then-self : goal.returns-then-self
+pub returns-then-not-self : goal.returns-then-not-self
 unfolding pulse0
-returns-then-self c = rw (c.transfer.ensures, c.if-self.true)
+returns-then-not-self c = rw (c.count_down.ensures, c.if-self.false, c.if-self-2.true, unset _ c.if-not-self.true)
 
-pub returns-then-self-3 : goal.returns-then-self-3
+pub returns-else-self-2 : goal.returns-else-self-2
 unfolding pulse0
-returns-then-self-3 c = rw (c.if-self.false, c.if-self-2.true, c.if-self-3.true)
-
-pub returns-then-v-eq0 : goal.returns-then-v-eq0
-unfolding pulse0
-returns-then-v-eq0 c = rw (c.if-self.false, c.if-self-2.true, c.if-self-3.false, ← c.one_less-v.ensures, eq-eqb _ _ c.if-v-eq0.true)
-
-pub returns-else-v-eq0 : goal.returns-else-v-eq0
-unfolding pulse0
-returns-else-v-eq0 c = rw (c.if-self.false, c.if-self-2.true, c.if-self-3.false, ← c.one_less-v.ensures, ne_eqb _ _ c.if-v-eq0.false)
-
-pub returns : goal.returns
-unfolding pulse0
-returns c = rw (c.if-self.false, c.if-self-2.false)
+returns-else-self-2 c =
+    elim c.else-self-2.branch [
+      | else-self-2-via-then-self-2+else-not-self w ↦ rw (c.if-self.false, w.if-self-2.true, set _ w.if-not-self.false)
+      | else-self-2-via-else-self-2 w ↦ rw (c.if-self.false, w.if-self-2.false)
+    ]

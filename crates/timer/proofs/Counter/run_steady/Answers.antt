@@ -1,78 +1,49 @@
-use borrow.Author.Tests.{ne_eqb}
+use Rattle.std.proofs.Common.{rules}
+use Rattle.timer.specs.Steady.{fall2, fall3, fall4}
 use Rattle.timer.proofs.Runs.{steady_unset, steady_in_0, steady_in_1, steady_in_2, steady_in_3, steady_in_4, steady_in_5, steady_in_none}
+use Rattle.timer.proofs.Counter.run_steady.Goals.{in_default-via-in-0+then-self+else-not-self-2, in_default-via-in-0+else-self, in_default-via-in-1+else-not-self-3, in_default-via-in-2+else-self-2, in_default-via-in-3+else-self-3, in_default-via-in-4+else-self-4, in_default-via-in-5+else-not-self-4, in_default-via-in_default-1}
 use Rattle.timer.proofs.Counter.run_steady.Goals as goal
 
-pub returns-then-self-3 : goal.returns-then-self-3
-returns-then-self-3 c =
-    let a = c.args in
-    rw (c.rest.ensures, steady_in_0 a.self a.n c.if-self.true c.in-0.is, c.if-self-2.true, c.if-self-3.true)
-
-pub returns-then-self-2 : goal.returns-then-self-2
-returns-then-self-2 c =
-    let a = c.args in
-    rw (c.fall_to.ensures, c.fall_0.ensures, steady_in_0 a.self a.n c.if-self.true c.in-0.is, c.if-self-2.true, c.if-self-3.false)
+pub returns-then-not-self : goal.returns-then-not-self
+returns-then-not-self c = rw (c.rest.ensures, steady_unset c.args.self c.args.n c.if-not-self.true)
 
 pub returns-in-0 : goal.returns-in-0
-returns-in-0 c =
-    let a = c.args in
-    rw (c.rest-in-0.ensures, steady_in_0 a.self a.n c.if-self.true c.in-0.is, c.if-self-2.false)
-
-pub returns-then-self-4 : goal.returns-then-self-4
-returns-then-self-4 c =
-    let a = c.args in
-    rw (c.rest-then-self-4.ensures, steady_in_1 a.self a.n c.if-self.true c.in-1.is, c.if-self-4.true)
+returns-in-0 c = rw (c.fall_once.ensures, steady_in_0 c.args.self c.args.n c.if-not-self.false c.in-0.is, c.if-self.true, c.if-not-self-2.true)
 
 pub returns-in-1 : goal.returns-in-1
-returns-in-1 c =
-    let a = c.args in
-    rw (c.fall_to-in-1.ensures, c.fall_0-in-1.ensures, steady_in_1 a.self a.n c.if-self.true c.in-1.is, c.if-self-4.false)
-
-pub returns-then-self-5 : goal.returns-then-self-5
-returns-then-self-5 c =
-    let a = c.args in
-    rw (c.fall_to-then-self-5.ensures, c.fall_2.ensures, steady_in_2 a.self a.n c.if-self.true c.in-2.is, c.if-self-5.true)
+returns-in-1 c = rw (c.fall_once-in-1.ensures, steady_in_1 c.args.self c.args.n c.if-not-self.false c.in-1.is, c.if-not-self-3.true)
 
 pub returns-in-2 : goal.returns-in-2
 returns-in-2 c =
-    let a = c.args in
-    rw (c.rest-in-2.ensures, steady_in_2 a.self a.n c.if-self.true c.in-2.is, c.if-self-5.false)
-
-pub returns-then-self-6 : goal.returns-then-self-6
-returns-then-self-6 c =
-    let a = c.args in
-    rw (c.fall_to-then-self-6.ensures, c.fall_3.ensures, steady_in_3 a.self a.n c.if-self.true c.in-3.is, c.if-self-6.true)
+    let rule = fall2 c.args.self.count in
+    rw (c.fall.ensures.tells rule (λ m r next q. search rules) (λ m r next q. search rules), steady_in_2 c.args.self c.args.n c.if-not-self.false c.in-2.is, c.if-self-2.true)
 
 pub returns-in-3 : goal.returns-in-3
 returns-in-3 c =
-    let a = c.args in
-    rw (c.rest-in-3.ensures, steady_in_3 a.self a.n c.if-self.true c.in-3.is, c.if-self-6.false)
-
-pub returns-then-self-7 : goal.returns-then-self-7
-returns-then-self-7 c =
-    let a = c.args in
-    rw (c.fall_to-then-self-7.ensures, c.fall_4.ensures, steady_in_4 a.self a.n c.if-self.true c.in-4.is, c.if-self-7.true)
+    let rule = fall3 c.args.self.count in
+    rw (c.fall-in-3.ensures.tells rule (λ m r next q. search rules) (λ m r next q. search rules), steady_in_3 c.args.self c.args.n c.if-not-self.false c.in-3.is, c.if-self-3.true)
 
 pub returns-in-4 : goal.returns-in-4
 returns-in-4 c =
-    let a = c.args in
-    rw (c.rest-in-4.ensures, steady_in_4 a.self a.n c.if-self.true c.in-4.is, c.if-self-7.false)
-
-pub returns-then-self-8 : goal.returns-then-self-8
-returns-then-self-8 c =
-    let a = c.args in
-    rw (c.rest-then-self-8.ensures, steady_in_5 a.self a.n c.if-self.true c.in-5.is, c.if-self-8.true)
+    rw (c.fall-in-4.ensures.tells fall4 (λ m r next q. search rules) (λ m r next q. search rules), steady_in_4 c.args.self c.args.n c.if-not-self.false c.in-4.is, c.if-self-4.true)
 
 pub returns-in-5 : goal.returns-in-5
 returns-in-5 c =
-    let a = c.args in
-    rw (c.fall_to-in-5.ensures, c.fall_4-in-5.ensures, steady_in_5 a.self a.n c.if-self.true c.in-5.is, c.if-self-8.false)
+    rw (c.fall-in-5.ensures.tells fall4 (λ m r next q. search rules) (λ m r next q. search rules), steady_in_5 c.args.self c.args.n c.if-not-self.false c.in-5.is, c.if-not-self-4.true)
 
 pub returns-in_default : goal.returns-in_default
 returns-in_default c =
-    let a = c.args in
-    rw (c.rest-in_default.ensures, steady_in_none a.self a.n c.if-self.true (ne_eqb _ _ c.in_default.in_default-own.rest.0.0.0.0.0.1) (ne_eqb _ _ c.in_default.in_default-own.rest.0.0.0.0.1) (ne_eqb _ _ c.in_default.in_default-own.rest.0.0.0.1) (ne_eqb _ _ c.in_default.in_default-own.rest.0.0.1) (ne_eqb _ _ c.in_default.in_default-own.rest.0.1) (ne_eqb _ _ c.in_default.in_default-own.rest.1))
-
-pub returns : goal.returns
-returns c =
-    let a = c.args in
-    rw (c.rest-2.ensures, steady_unset a.self a.n c.if-self.false)
+    let s = c.args.self in
+    let n = c.args.n in
+    let f = c.if-not-self.false in
+    rw c.rest-in_default.ensures
+    (elim c.in_default.branch [
+      | in_default-via-in-0+then-self+else-not-self-2 w ↦ rw (steady_in_0 s n f w.in-0.is, w.if-self.true, w.if-not-self-2.false)
+      | in_default-via-in-0+else-self w ↦ rw (steady_in_0 s n f w.in-0.is, w.if-self.false)
+      | in_default-via-in-1+else-not-self-3 w ↦ rw (steady_in_1 s n f w.in-1.is, w.if-not-self-3.false)
+      | in_default-via-in-2+else-self-2 w ↦ rw (steady_in_2 s n f w.in-2.is, w.if-self-2.false)
+      | in_default-via-in-3+else-self-3 w ↦ rw (steady_in_3 s n f w.in-3.is, w.if-self-3.false)
+      | in_default-via-in-4+else-self-4 w ↦ rw (steady_in_4 s n f w.in-4.is, w.if-self-4.false)
+      | in_default-via-in-5+else-not-self-4 w ↦ rw (steady_in_5 s n f w.in-5.is, w.if-not-self-4.false)
+      | in_default-via-in_default-1 w ↦ rw (steady_in_none s n f (search rules) (search rules) (search rules) (search rules) (search rules) (search rules))
+    ])
