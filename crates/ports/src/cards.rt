@@ -2,7 +2,7 @@
 use crate::Card;
 
 // A proof about a function that names the table has all of the text in it, so only this one does.
-pub fn all() -> &'static [Card] {
+pub(crate) fn all() -> &'static [Card] {
     &CARDS
 }
 

@@ -28,7 +28,7 @@ impl Memory {
     }
 
     // What an address has; they come round.
-    pub fn byte(&self, address: u32) -> u8 {
+    pub(crate) fn byte(&self, address: u32) -> u8 {
         self.bytes[(address % 65536) as usize]
     }
 
