@@ -1,4 +1,5 @@
 pub mod Looks
+pub mod Once
 pub mod Plain
 pub mod Ranks
 pub mod Refusals

@@ -641,23 +641,39 @@ impl Dma {
         ensures { shown_as self result ≡ seen_of self register }
     {
         let r = register % Dma::PORTS;
-        match r {
-            Dma::SELECTION => self.show(bits::with(bits::weigh(self.base, 16), self.selected)),
-            Dma::COUNT..=Dma::ADDRESS_HIGH => self.show(self.shown_span().show(r)),
-            Dma::DEVICE_CONTROL => {
-                self.show(bits::weigh(self.rotate, 16) + bits::weigh(self.disabled, 4))
-            }
-            Dma::DEVICE_CONTROL_HIGH => self.show(0),
-            Dma::MODE_CONTROL => self.show(self.channel_at(self.selected).mode),
-            Dma::STATUS => Ok(Shown {
+        // what initializes is only written
+        if r == Dma::INITIALIZE {
+            return Err(Refusal::NotThere);
+        }
+        if r == Dma::SELECTION {
+            return self.show(bits::with(bits::weigh(self.base, 16), self.selected));
+        }
+        if r <= Dma::ADDRESS_HIGH {
+            return self.show(self.shown_span().show(r));
+        }
+        // there is no register 7
+        if r == 7 {
+            return Err(Refusal::NotThere);
+        }
+        if r == Dma::DEVICE_CONTROL {
+            return self.show(bits::weigh(self.rotate, 16) + bits::weigh(self.disabled, 4));
+        }
+        if r == Dma::DEVICE_CONTROL_HIGH {
+            return self.show(0);
+        }
+        if r == Dma::MODE_CONTROL {
+            return self.show(self.channel_at(self.selected).mode);
+        }
+        if r == Dma::STATUS {
+            return Ok(Shown {
                 byte: self.requests % 16 * 16 + self.ends % 16,
                 ends: 0,
-            }),
-            Dma::MASK => self.show(self.masks()),
-            // there is no register 7, and what initializes is only written
-            Dma::INITIALIZE | 7 => Err(Refusal::NotThere),
-            _ => Err(Refusal::NotBuilt),
+            });
         }
+        if r < Dma::MASK {
+            return Err(Refusal::NotBuilt);
+        }
+        self.show(self.masks())
     }
 
     // The same, with the chip as it is afterwards.

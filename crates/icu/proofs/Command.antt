@@ -23,3 +23,7 @@ module _ (x : ℕ) where
 pub by_number : (c : Icu) (x k : ℕ) → x / 32 ≡ k → commanded (bit_of k 2) (bit_of k 1) (bit_of k 0) c (x % 8) ≡ pfcw c x
 unfolding pfcw
 by_number c x k e = rw (d7 x, d6 x, d5 x, e)
+
+pub pfcw_is : (c : Icu) (x : ℕ) → pfcw c x ≡ commanded (bit_of (x / 32) 2) (bit_of (x / 32) 1) (bit_of (x / 32) 0) c (x % 8)
+unfolding pfcw
+pfcw_is c x = rw (d7 x, d6 x, d5 x)

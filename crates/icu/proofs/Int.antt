@@ -107,7 +107,7 @@ module _ (a s l i : ℕ) (h : i < 8) (b : bit_of a (level_at l i) ≡ true) wher
     decided f e false u = beneath f (ltb-false _ _ u)
 
 -- something is asked for, and nothing is in service
-none_served : (a s l : ℕ) → (highest_of a l ≡ 8 → ⊥) → highest_of s l ≡ 8 → interrupts a s l ≡ true
+pub none_served : (a s l : ℕ) → (highest_of a l ≡ 8 → ⊥) → highest_of s l ≡ 8 → interrupts a s l ≡ true
 unfolding highest_of
 none_served a s l n e = free (search_from a l 0 8) (search_from s l 0 8)
   where
@@ -117,7 +117,7 @@ none_served a s l n e = free (search_from a l 0 8) (search_from s l 0 8)
     free (at i h g b f q) (none f' q') = alone a s l i g b f'
 
 -- both: the ranks decide
-by_rank : (a s l : ℕ) → (highest_of a l ≡ 8 → ⊥) → (highest_of s l ≡ 8 → ⊥) → interrupts a s l ≡ ltb (rank_of l (highest_of a l)) (rank_of l (highest_of s l))
+pub by_rank : (a s l : ℕ) → (highest_of a l ≡ 8 → ⊥) → (highest_of s l ≡ 8 → ⊥) → interrupts a s l ≡ ltb (rank_of l (highest_of a l)) (rank_of l (highest_of s l))
 unfolding highest_of
 by_rank a s l n m = ranked (search_from a l 0 8) (search_from s l 0 8)
   where

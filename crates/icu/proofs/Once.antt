@@ -1,14 +1,17 @@
 -- No two answers of the chip tell the same, so each contract allows one answer only.
+use Prim.Native.Nat.{◌<◌}
 use mathlib.Core.Path.{◌≡◌, refl, sym, ap, ◌∙◌}
+use native.Mathlib.Omega.{arith}
 use lib.Dec.{eqb}
 use lib.ListN.{get_or}
-use Rattle.std.specs.Prelude.{ℕ, Option, Some, None, Result, Ok, Err, if◌then◌else◌}
+use Rattle.std.specs.Prelude.{ℕ, Option, Some, None, IfSome, Result, Ok, Err, if◌then◌else◌}
 use Rattle.icu.specs.declared.Icu.{Icu}
 use Rattle.icu.specs.declared.Refusal.{Refusal}
 use Rattle.icu.specs.declared.Refusal.TheVariants.{OutOfTurn, NotBuilt}
 use Rattle.icu.specs.declared.Named.{Named}
 use Rattle.icu.specs.declared.Named.TheVariants.{Vector, Call}
 use Rattle.icu.specs.Answers.{Told, written_as, got_as, acknowledged_as}
+use Rattle.icu.specs.Ranks.{level_or_8}
 
 -- the answer that tells this
 written_of : Told → Result Icu Refusal
@@ -49,3 +52,10 @@ module _ (c : Icu) where
 
   pub one_acknowledged : (r s : Option (Icu × Named)) → acknowledged_as c r ≡ acknowledged_as c s → r ≡ s
   one_acknowledged r s e = sym (acknowledged_back c r) ∙ ap acknowledged_of e ∙ acknowledged_back c s
+
+-- A level below 8, or none: the number is told by one of them alone.
+pub one_level : (r s : Option ℕ) → IfSome r (λ n. n < 8) → IfSome s (λ n. n < 8) → level_or_8 r ≡ level_or_8 s → r ≡ s
+one_level (Some m) (Some n) h k e = ap Some e
+one_level (Some m) None h k e = absurd (omega arith)
+one_level None (Some n) h k e = absurd (omega arith)
+one_level None None h k e = refl

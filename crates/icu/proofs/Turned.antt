@@ -29,7 +29,7 @@ within_8 x l k (suc left) = rw (same_level, within_8 x l (suc k) left)
     same_level : level_at l k ≡ level_at (l % 8) k
     same_level = omega arith
 
-by_turning_law : (x l : ℕ) → x < 256 → highest_of x l ≡ by_turning x (l % 8)
+pub by_turning_law : (x l : ℕ) → x < 256 → highest_of x l ≡ by_turning x (l % 8)
 unfolding highest_of
 by_turning_law x l h = within_8 x l 0 8 ∙ all x (l % 8) h (omega arith)
 

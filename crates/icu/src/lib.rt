@@ -366,7 +366,7 @@ impl Icu {
     }
 
     // The chip once an acknowledge has taken a level, or none.
-    #[tactic(auto, using(crate::proofs::Served::serves_by))]
+    #[tactic(auto, using(crate::proofs::Served::serves_whole))]
     pub fn serve(self, taken: Option<u8>) -> Icu
         ensures { result ≡ served_by self taken }
     {

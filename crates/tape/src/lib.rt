@@ -55,12 +55,20 @@ pub fn held(size: u8) -> usize
     usize::from(size.min(7))
 }
 
+// How many bytes the kept ones and the tape make.
+pub fn count_bytes(kept: [u8; 7], size: u8, tape: &[u8]) -> usize
+    ensures value { result ≡ length (take size kept ++ tape.now) }
+    ensures value_2 { result ≡ held_of size + length tape.now }
+{
+    held(size) + tape.len()
+}
+
 impl<'a> Input<'a> {
     // How many bytes there are.
     pub fn count_bytes(&self) -> usize
         ensures { result ≡ length self.now }
     {
-        held(self.size) + self.tape.len()
+        count_bytes(self.kept, self.size, self.tape)
     }
 
     // Byte j of them, 0 past the end.

@@ -21,7 +21,7 @@ use Rattle.timer.specs.Mode5.{pulse5}
 use Rattle.timer.specs.Modes.{mode_of}
 use Rattle.timer.specs.Pulse.{pulse_of}
 use Rattle.timer.specs.Run.{rise_of, ran_on, ran_of}
-use Rattle.timer.specs.Steady.{rose, moved, fall0, fall2, fall3, fall4, moving, fell_of, fallen_to, fell_by, rested, steady0, steady1, steady2, steady_of}
+use Rattle.timer.specs.Steady.{Fall, rose, moved, fall0, fall2, fall3, fall4, moving, fell_of, fallen_to, fell_by, rested, steady0, steady1, steady2, steady_of}
 use Rattle.timer.specs.declared.Counter.{Counter}
 use Rattle.timer.specs.declared.Moving.{Moving}
 use Rattle.timer.specs.declared.Ran.{Ran}
@@ -110,13 +110,20 @@ module _ (fall : Moving → Moving) where
           by false false true p q = refl
           by false false false p q = refl
 
-stays0 : (k : Moving) → k.out ≡ true → (fall0 k).out ≡ true
+      abbrev counted_up : Moving → ℕ → Fall
+      counted_up k r = record { value = k.value; out = k.out; odd = k.odd; rises = r }
+
+      pub fell_once : (n : ℕ) (k : Moving) (r : ℕ) → k ≡ moving (fell_of fall m n) → r ≡ rise_of m.out k.out → counted_up k r ≡ fell_of fall m n
+      fell_once n k r e h =
+          rw (h, e) (ap (counted_up (moving (fell_of fall m n))) (sym (rises_once n)))
+
+pub stays0 : (k : Moving) → k.out ≡ true → (fall0 k).out ≡ true
 stays0 k e = pick (λ (x : Moving). x.out ≡ true) (eqb (less k.value) 0) (λ z. refl) (λ z. e)
 
 -- n pulses of modes 0 and 1, by the counter that they leave
-pub fell_once : (c : Counter) (n : ℕ) (k : Counter) (r : ℕ) → k ≡ (fell_by fall0 c n).counter → r ≡ rise_of c.out k.out
+pub ran_once : (c : Counter) (n : ℕ) (k : Counter) (r : ℕ) → k ≡ (fell_by fall0 c n).counter → r ≡ rise_of c.out k.out
     → ◌≡◌ {A = Ran} (record { counter = k; rises = r }) (fell_by fall0 c n)
-fell_once c n k r e h =
+ran_once c n k r e h =
     let start = moved c.value c.out c.odd in
     rw (h, e, ← rises_once fall0 start stays0 n)
 

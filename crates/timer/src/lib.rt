@@ -443,14 +443,12 @@ impl Counter {
     }
 
     // The last complete count is transferred, once.
-    fn transfer(self) -> Counter
+    fn transfer(mut self) -> Counter
         ensures { result ≡ transferred self }
     {
-        Counter {
-            pending: false,
-            value: self.count,
-            ..self
-        }
+        self.pending = false;
+        self.value = self.count;
+        self
     }
 
     // One less, and at the end OUT takes a level.
@@ -472,14 +470,12 @@ impl Counter {
     }
 
     // The load of mode 3: the even number below an odd one, and that it was odd.
-    fn load_even(self) -> Counter
+    fn load_even(mut self) -> Counter
         ensures { result ≡ loaded_even self }
     {
-        Counter {
-            value: self.count - self.count % 2,
-            odd: self.count % 2 == 1,
-            ..self
-        }
+        self.value = self.count - self.count % 2;
+        self.odd = self.count % 2 == 1;
+        self
     }
 
     // A pulse in mode 0.
@@ -517,7 +513,7 @@ impl Counter {
 
     // A pulse in mode 2.
     #[tactic(auto, unfolding(crate::specs::Mode2::pulse2))]
-    fn pulse_2(self) -> Counter
+    fn pulse_2(mut self) -> Counter
         ensures { result ≡ pulse2 self }
     {
         if self.pending {
@@ -525,20 +521,16 @@ impl Counter {
             first.trigger = false;
             first
         } else if self.trigger {
-            Counter {
-                trigger: false,
-                value: self.count,
-                out: true,
-                ..self
-            }
+            self.trigger = false;
+            self.value = self.count;
+            self.out = true;
+            self
         } else if !self.gate {
             self
         } else if self.value == 1 {
-            Counter {
-                value: self.count,
-                out: true,
-                ..self
-            }
+            self.value = self.count;
+            self.out = true;
+            self
         } else {
             self.count_down(1, false)
         }
@@ -546,33 +538,28 @@ impl Counter {
 
     // A pulse in mode 3.
     #[tactic(auto, unfolding(crate::specs::Mode3::pulse3))]
-    fn pulse_3(self) -> Counter
+    fn pulse_3(mut self) -> Counter
         ensures { result ≡ pulse3 self }
     {
         if self.pending {
-            Counter {
-                pending: false,
-                trigger: false,
-                ..self.load_even()
-            }
+            let mut loaded = self.load_even();
+            loaded.pending = false;
+            loaded.trigger = false;
+            loaded
         } else if self.trigger {
-            Counter {
-                trigger: false,
-                out: true,
-                ..self.load_even()
-            }
+            let mut again = self.load_even();
+            again.trigger = false;
+            again.out = true;
+            again
         } else if !self.gate {
             self
         } else if self.value == self.half_end() {
-            Counter {
-                out: !self.out,
-                ..self.load_even()
-            }
+            let mut turned = self.load_even();
+            turned.out = !self.out;
+            turned
         } else {
-            Counter {
-                value: bits::one_less(bits::one_less(self.value)),
-                ..self
-            }
+            self.value = bits::one_less(bits::one_less(self.value));
+            self
         }
     }
 
@@ -796,8 +783,9 @@ impl Timer {
     pub fn pulse(self) -> Timer
         ensures { result ≡ pulses_of self }
     {
+        let [a, b, c] = self.counters;
         Timer {
-            counters: self.counters.map(Counter::pulse),
+            counters: [a.pulse(), b.pulse(), c.pulse()],
         }
     }
 
