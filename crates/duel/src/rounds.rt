@@ -78,8 +78,8 @@ impl Round {
         if let Some((i, (want, got))) = stretch::first_apart(want, got) {
             if self.first.tally.differences == 0 {
                 self.tell(i);
-                let _ = show::print_answer("  first board ", got);
-                let _ = show::print_answer("  second board", want);
+                let _ = show::print_answer(b"  first board ", got);
+                let _ = show::print_answer(b"  second board", want);
             }
         }
         add(

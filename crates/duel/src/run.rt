@@ -88,8 +88,8 @@ fn agrees(board: &str, typed: &Answers, got: &Answers) -> bool {
     };
     let record = i.saturating_add(1);
     let _ = writeln!(Output(STDOUT), "{board} board differs at record {record}");
-    let _ = show::print_answer("  typed in", typed);
-    let _ = show::print_answer("  found   ", got);
+    let _ = show::print_answer(b"  typed in", typed);
+    let _ = show::print_answer(b"  found   ", got);
     false
 }
 

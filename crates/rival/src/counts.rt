@@ -8,24 +8,24 @@ use std::fmt;
 // The counts, in the order in which they are printed; the last two are not printed here.
 #[derive(Clone, Copy, Default)]
 pub struct Tally {
-    records: u64,
+    pub records: u64,
     // Calls of the first board, of them those refused with 7, and of these those on a board with a field out of its range.
     pub calls: u64,
     pub refused: u64,
     pub spoilt: u64,
-    statuses: [u64; 7],
+    pub statuses: [u64; 7],
     // Operations 0 to 6, and any other.
-    operations: [u64; 8],
-    cycles: [u64; 4],
+    pub operations: [u64; 8],
+    pub cycles: [u64; 4],
     // Register 0: D0 without D1 and with it, D1 alone, neither, which may be refused.
-    resets: u64,
-    wide_resets: u64,
-    wide: u64,
-    narrow: u64,
-    narrow_refused: u64,
+    pub resets: u64,
+    pub wide_resets: u64,
+    pub wide: u64,
+    pub narrow: u64,
+    pub narrow_refused: u64,
     // Modes by words.
-    by_words: u64,
-    by_words_refused: u64,
+    pub by_words: u64,
+    pub by_words_refused: u64,
     pub differences: u64,
     // Calls that were not what they should be.
     pub wrong: u64,

@@ -17,9 +17,11 @@ impl fmt::Write for Output {
 }
 
 // A line of standard output: words, and the 16 bytes of an answer.
-pub fn print_answer(words: &str, answer: &[u8; 16]) -> fmt::Result {
+pub fn print_answer(words: &[u8], answer: &[u8; 16]) -> fmt::Result {
+    if !io::write_all(STDOUT, words) {
+        return Err(fmt::Error);
+    }
     let mut out = Output(STDOUT);
-    write!(out, "{words}")?;
     for byte in answer {
         write!(out, " {byte:02x}")?;
     }

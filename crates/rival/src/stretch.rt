@@ -78,7 +78,7 @@ impl Step {
 // The second board under way, and what became of it.
 #[derive(Clone, Copy)]
 pub struct Ran {
-    state: State,
+    pub state: State,
     pub seen: Seen,
 }
 

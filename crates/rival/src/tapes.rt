@@ -12,7 +12,7 @@ ghost use Rattle.std.specs.Prelude.{◌<◌};
 type Record = [u8; 8];
 
 #[derive(Clone, Copy, PartialEq, Eq)]
-enum Script {
+pub enum Script {
     Icu,
     Counter,
     Channel,
@@ -25,13 +25,13 @@ enum Script {
 
 #[derive(Clone, Copy)]
 pub struct Maker {
-    seed: u32,
-    script: Option<Script>,
-    step: u32,
+    pub seed: u32,
+    pub script: Option<Script>,
+    pub step: u32,
     // What the script drew when it began.
-    choice: u32,
+    pub choice: u32,
     // The memory's length.
-    memory: u32,
+    pub memory: u32,
 }
 
 // Marsaglia's xorshift on 32 bits: every number but 0 comes once in a round of 2^32 - 1.

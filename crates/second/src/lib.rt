@@ -9,7 +9,7 @@
 ghost use Rattle.std.specs.Prelude.{◌<◌};
 
 #[derive(Clone, Copy, PartialEq, Eq)]
-pub struct State([u32; 112]);
+pub struct State(pub [u32; 112]);
 
 // The interrupt chips: the master has the sixteen places from 0 on, the slave those from 96 on. Of them eleven are used.
 const MASTER: usize = 0;
@@ -340,10 +340,15 @@ fn irr(s: State, at: usize, lines: u32) -> u32 {
     }
 }
 
-// The rank of the best level of a set, 0 for the first, 8 where the set is empty. The set is turned so that the first rank is bit 0.
+// The rank of the best level of a set, 0 for the first, 8 where the set is empty. The set is turned so that the first rank is bit 0; every bit
+// then spreads upwards, and the zeros that are left are the ranks before the best. (The first board counts zeros from below.)
 fn best_rank(levels: u32, lowest: u32) -> u32 {
     let twice = levels % 256 * 257;
-    (twice >> (lowest % 8 + 1)).trailing_zeros().min(8)
+    let turned = (twice >> (lowest % 8 + 1)) % 256;
+    let two = turned | turned << 1;
+    let four = two | two << 2;
+    let eight = four | four << 4;
+    (!eight & 255).count_ones()
 }
 
 fn level_at(rank: u32, lowest: u32) -> u32 {
@@ -1202,12 +1207,15 @@ fn dma_read(s: State, register: u32) -> Effect {
     Effect::with_data(s, shown)
 }
 
-// The first-ranked of a set of channels that is not empty: the same turning, on four bits.
+// The first-ranked of a set of channels that is not empty: the same turning and counting, on four bits.
 fn best_channel(channels: u32, first: u32) -> u32
     ensures { result < 4 }
 {
     let twice = channels % 16 * 17;
-    ((twice >> (first % 4)).trailing_zeros() % 4 + first % 4) % 4
+    let turned = (twice >> (first % 4)) % 16;
+    let two = turned | turned << 1;
+    let four = two | two << 2;
+    ((!four & 15).count_ones() % 4 + first % 4) % 4
 }
 
 fn grant(s: State) -> Effect {
