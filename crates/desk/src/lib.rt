@@ -64,7 +64,7 @@ impl Records {
     }
 }
 
-#[derive(Drop)]
+#[derive(Clone, Copy)]
 pub struct Desk<'a> {
     // what is done with the lesson, and whether a guess is still asked for somewhere: then rows say no more than the answers
     mode: Mode,

@@ -127,6 +127,8 @@ impl Lock<'_> {
     }
 
     // Nothing else changes the old file now. What is read here is of the file that was opened, whatever its name has come to mean.
+    // (The memory is a MiB of this function's frame: in that of `main` each run would take it, also one that has no memory.)
+    #[inline(never)]
     fn run_and_save(&self) -> Result<Exit, Unsaved> {
         // Where standard input, output or error is closed, the first file that is opened takes its place, and answers or messages would go into it.
         if self.file.as_raw_fd() <= report::STDERR {

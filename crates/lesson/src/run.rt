@@ -22,6 +22,7 @@ fn chips_of(board: Board) -> Chips {
     }
 }
 
+#[inline(never)]
 pub(crate) fn run(mode: Mode, source: &Source, path: &[u8]) -> Result<(), Stop> {
     let has_question = filters::prepare(mode, source, path)?;
     let mut board = Board::reset();

@@ -55,7 +55,7 @@ impl Base {
 
 // A word of a line; an equals sign or a colon is one by itself.
 #[derive(Clone, Copy)]
-pub(crate) struct Word<'a> {
+pub struct Word<'a> {
     pub at: usize,
     pub text: &'a [u8],
     ghost in_line: { at + length text.now < 2 ^ 64 },

@@ -1,4 +1,5 @@
-// What needs no board: a lesson that is checked or made into a tape, a tape or answers that are put into words.
+// What needs no board: a lesson that is checked or made into a tape, a tape or answers that are put into words. What reads a text is not folded into
+// what calls it: its buffers, some 64 KiB each, are in no frame but its own.
 use crate::held::Tape;
 use crate::lines::{End, Lines};
 use crate::output::Stop;
@@ -54,6 +55,7 @@ fn judge(
 }
 
 // Whether each line of a lesson is good, and there is a record; answers whether it asks for a guess.
+#[inline(never)]
 fn check(source: &Source, path: &[u8]) -> Result<bool, Stop> {
     let mut lines = Lines::start(source, path, false, lines::TOLD);
     let mut has_record = false;
@@ -88,6 +90,7 @@ pub fn prepare(mode: Mode, source: &Source, path: &[u8]) -> Result<bool, Stop> {
 }
 
 // A lesson as a tape. Only that of a good one goes out.
+#[inline(never)]
 pub fn assemble(rt: &HostRuntime, source: &Source, path: &[u8]) -> Result<(), Stop> {
     let mut lines = Lines::start(source, path, false, lines::TOLD);
     let mut tape = Tape::new();
@@ -144,11 +147,13 @@ impl Piece<16> for Answer {
 }
 
 // A tape, a record on each line.
+#[inline(never)]
 pub fn list(source: &Source, path: &[u8]) -> Result<(), Stop> {
     tell::<8, Record>(source, path)
 }
 
 // Answers, a row for each.
+#[inline(never)]
 pub fn explain(source: &Source, path: &[u8]) -> Result<(), Stop> {
     output::written(sentences::print_answer_heads())?;
     tell::<16, Answer>(source, path)

@@ -21,7 +21,7 @@ pub struct Tape {
 }
 
 impl Tape {
-    pub(crate) fn new() -> Tape {
+    pub fn new() -> Tape {
         Tape {
             file: None,
             spilled: 0,
@@ -29,12 +29,12 @@ impl Tape {
         }
     }
 
-    pub(crate) fn is_empty(&self) -> bool {
+    pub fn is_empty(&self) -> bool {
         self.buffer.is_empty()
     }
 
     // A record more.
-    pub(crate) fn push(&mut self, rt: &HostRuntime, record: [u8; 8]) -> Result<(), Stop> {
+    pub fn push(&mut self, rt: &HostRuntime, record: [u8; 8]) -> Result<(), Stop> {
         if self.buffer.is_full() {
             self.spill(rt)?;
         }
@@ -58,7 +58,7 @@ impl Tape {
     }
 
     // All of it goes to standard output.
-    pub(crate) fn write(&self) -> Result<(), Stop> {
+    pub fn write(&self) -> Result<(), Stop> {
         if let Some(file) = &self.file {
             let mut reader = file;
             let _ = reader.seek(SeekFrom::Start(0));

@@ -2,7 +2,6 @@
 use crate::output;
 use crate::output::Stop;
 use crate::source::Source;
-use arrayvec::ArrayVec;
 use notation::fault::{Bad, Fault};
 use notation::line;
 use notation::line::Parsed;
@@ -18,6 +17,9 @@ const KEPT: usize = 1000;
 
 const COUNTED: usize = 101000;
 
+// How much is read at once.
+const LUMP: usize = 65536;
+
 // Why there are no more lines.
 #[derive(Clone, Copy, PartialEq, Eq)]
 pub enum End {
@@ -30,18 +32,17 @@ pub enum End {
 }
 
 // A text under way.
-#[derive(Drop)]
+#[derive(Clone, Copy)]
 pub struct Lines<'a> {
     source: &'a Source,
     path: &'a [u8],
     // what was read last, and of that what is not taken yet
-    lump: [u8; 65536],
+    lump: [u8; LUMP],
     from: usize,
     to: usize,
-    // the line under way, or the last one: its first bytes, and how many it has
-    line: ArrayVec<u8, KEPT>,
+    // how many bytes the line under way has, or the last one
     held: usize,
-    // at each place the byte that the last line which reaches it has there
+    // at each place the byte that the last line which reaches it has there: first those of this line
     left: [u8; KEPT],
     // its number, from 1
     pub number: u64,
@@ -57,10 +58,9 @@ impl<'a> Lines<'a> {
         Lines {
             source,
             path,
-            lump: [0; 65536],
+            lump: [0; LUMP],
             from: 0,
             to: 0,
-            line: ArrayVec::new(),
             held: 0,
             left: [0; KEPT],
             number: 0,
@@ -74,7 +74,7 @@ impl<'a> Lines<'a> {
 impl Lines<'_> {
     // The bytes of the line that was taken last, without its line feed.
     pub fn line(&self) -> &[u8] {
-        self.line.as_slice()
+        &self.left[..self.held.min(KEPT)]
     }
 
     // The next good line, which may be empty.
@@ -109,7 +109,7 @@ impl Lines<'_> {
 
     // A guess that its line ends with has no colon, which is told; but not where an earlier line has a colon just there: then its answer is missing.
     fn named(&self, bad: Bad) -> Bad {
-        let end = self.line.len();
+        let end = self.line().len();
         if bad == Bad::at(end, Fault::Colon) && self.left.get(end).copied() == Some(b':') {
             Bad::at(end, Fault::Answer)
         } else {
@@ -143,7 +143,6 @@ impl Lines<'_> {
 
     // Reads until a line is whole.
     fn read_line(&mut self) -> Result<(), End> {
-        self.line.clear();
         self.held = 0;
         self.number = self.number.saturating_add(1);
         for _ in 0..u64::MAX {
@@ -157,39 +156,34 @@ impl Lines<'_> {
 
     // What is left of the lump, up to the end of the line: whether that was there.
     fn take_rest(&mut self) -> Result<bool, End> {
-        for at in self.from..self.to {
-            let Some(x) = self.lump.get(at).copied() else {
-                break;
-            };
-            self.from = at + 1;
-            if x == b'\n' {
-                return Ok(true);
-            }
-            self.take_byte(x)?;
+        let to = self.to.min(LUMP);
+        let from = self.from.min(to);
+        let rest = &self.lump[from..to];
+        let end = rest.iter().position(|x| *x == b'\n');
+        let taken = end.unwrap_or(rest.len()).min(rest.len());
+        let held = self.held.min(KEPT);
+        let kept = taken.min(KEPT - held);
+        self.from = from + taken + usize::from(end.is_some());
+        for i in 0..kept {
+            self.left[held + i] = self.lump[from + i];
         }
-        Ok(false)
+        self.count(taken)?;
+        Ok(end.is_some())
     }
 
-    // A byte more of the line under way. The first that is too many is told at once, since the line may never end; much later reading stops.
-    fn take_byte(&mut self, x: u8) -> Result<(), End> {
-        let _ = self.line.try_push(x);
-        if let Some(left) = self.left.get_mut(self.held) {
-            *left = x;
+    // So many bytes more of the line under way. The first that is too many is told at once, since the line may never end; much later reading stops.
+    fn count(&mut self, more: usize) -> Result<(), End> {
+        let was = self.held;
+        let now = was.saturating_add(more);
+        self.held = now.min(COUNTED);
+        if was <= KEPT && KEPT < now {
+            self.tell_bad(line::parse_long(self.line()))?;
         }
-        match self.held {
-            COUNTED => {
-                self.tell_line(Bad::at(COUNTED, Fault::Endless));
-                Err(End::Stopped)
-            }
-            held => {
-                self.held = held.saturating_add(1);
-                if held == KEPT {
-                    self.tell_bad(line::parse_long(self.line()))
-                } else {
-                    Ok(())
-                }
-            }
+        if COUNTED < now {
+            self.tell_line(Bad::at(COUNTED, Fault::Endless));
+            return Err(End::Stopped);
         }
+        Ok(())
     }
 
     // One read.

@@ -3,7 +3,7 @@ use notation::line::MemoryLine;
 use sentences::Message;
 use sentences::text::Text;
 
-#[derive(Drop)]
+#[derive(Clone, Copy)]
 pub struct Memory {
     bytes: [u8; 65536],
     marks: [bool; 65536],
@@ -28,7 +28,7 @@ impl Memory {
     }
 
     // What an address has; they come round.
-    pub(crate) fn byte(&self, address: u32) -> u8 {
+    pub fn byte(&self, address: u32) -> u8 {
         self.bytes[(address % 65536) as usize]
     }
 

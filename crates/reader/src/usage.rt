@@ -23,7 +23,7 @@ pub enum Mode {
 
 impl Mode {
     // The command that a word starts. Any other argument is a file.
-    pub(crate) fn of(word: &[u8]) -> Option<Mode> {
+    pub fn of(word: &[u8]) -> Option<Mode> {
         match word {
             b"\n" => Some(Mode::Run),
             b"listing" => Some(Mode::Listing),

@@ -5,7 +5,7 @@ ghost use Rattle.std.specs.Prelude.{max, ◌≡◌, ◌≤◌};
 ghost use Rattle.std.specs.Io.{ReadsAtMost};
 ghost use Rattle.std.specs.Ordering.{ord_max};
 
-use arrayvec::{ArrayString, ArrayVec};
+use arrayvec::ArrayString;
 use std::env::FillError;
 use std::fmt::Write;
 use std::io::{Error, ErrorKind};
@@ -71,7 +71,9 @@ pub fn fail(name: &[u8]) {
 
 // Says of a file why a call on it failed.
 pub fn fail_of(name: &[u8], error: &Error) {
-    fail_with(shown(name).as_slice(), error);
+    let mut room = [0; ROOM];
+    let n = show(name, &mut room);
+    fail_with(&room[..n.min(ROOM)], error);
 }
 
 // A line on standard error: what failed, as the caller names it, a colon and the error's text.
@@ -121,7 +123,9 @@ const INVALID: i32 = 22;
 
 // A file's name.
 pub fn print_name(fd: i32, name: &[u8]) -> bool {
-    io::write_all(fd, shown(name).as_slice())
+    let mut room = [0; ROOM];
+    let n = show(name, &mut room);
+    io::write_all(fd, &room[..n.min(ROOM)])
 }
 
 // A message that begins with a file's name.
@@ -130,29 +134,37 @@ pub fn say_of(name: &[u8], text: &[u8]) {
     io::write_all(STDERR, text);
 }
 
-// A name as it can be shown, four characters for a byte at the most; a path has no more than 4,096 bytes. What has no room is left out.
-fn shown(name: &[u8]) -> ArrayVec<u8, 16384> {
-    let mut shown = ArrayVec::new();
+// A path has no more than 4,096 bytes, and a byte is shown by four characters at the most.
+const ROOM: usize = 16384;
+
+// Puts a name at the start of the room as it can be shown, and answers its length there. What has no room is left out. (A comment of a lesson is
+// shown so too: a vector that is handed back would be filled, and copied, for each.)
+fn show(name: &[u8], room: &mut [u8; ROOM]) -> usize {
+    let mut n = 0;
     let mut parts = 0;
     for x in name {
-        show_byte(&mut shown, parts, *x);
+        n = show_byte(room, n, parts, *x);
         parts = parts_after(parts, *x);
     }
-    shown
+    n
 }
 
-fn show_byte(shown: &mut ArrayVec<u8, 16384>, parts: u8, x: u8) {
+fn show_byte(room: &mut [u8; ROOM], n: usize, parts: u8, x: u8) -> usize {
     if is_plain(parts, x) {
-        let _ = shown.try_push(x);
-        return;
+        return put(room, n, x);
     }
-    for y in [
-        b'\\',
-        b'x',
-        DIGITS[usize::from(x / 16)],
-        DIGITS[usize::from(x % 16)],
-    ] {
-        let _ = shown.try_push(y);
+    let n = put(room, n, b'\\');
+    let n = put(room, n, b'x');
+    let n = put(room, n, DIGITS[usize::from(x / 16)]);
+    put(room, n, DIGITS[usize::from(x % 16)])
+}
+
+fn put(room: &mut [u8; ROOM], n: usize, x: u8) -> usize {
+    if n < ROOM {
+        room[n] = x;
+        n + 1
+    } else {
+        n
     }
 }
 

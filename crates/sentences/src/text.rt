@@ -93,8 +93,11 @@ impl Text {
             .fold(self, |t, n| t.put(b' ').put(b'0' + n))
     }
 
-    // OUT0 to OUT2 and INT, as an answer's byte 3 has them.
-    fn levels(self, x: u8) -> Text {
+    // OUT0 to OUT2 and INT, as an answer's byte 3 has them; nothing where a bit past these is set.
+    pub fn levels(self, x: u8) -> Text {
+        if 15 < x {
+            return self;
+        }
         self.put(b'0' + x % 2)
             .put(b'0' + x / 2 % 2)
             .put(b'0' + x / 4 % 2)
