@@ -22,11 +22,16 @@ fn chips_of(board: Board) -> Chips {
     }
 }
 
-#[inline(never)]
 pub(crate) fn run(mode: Mode, source: &Source, path: &[u8]) -> Result<(), Stop> {
     let has_question = filters::prepare(mode, source, path)?;
+    run_prepared(mode, has_question, source, path)
+}
+
+// The desk is in this frame alone: what checks a lesson does not stand on it.
+#[inline(never)]
+fn run_prepared(mode: Mode, plain: bool, source: &Source, path: &[u8]) -> Result<(), Stop> {
     let mut board = Board::reset();
-    let mut desk = Desk::start(mode, has_question, source, path);
+    let mut desk = Desk::start(mode, plain, source, path);
     for _ in 0..u64::MAX {
         match desk.take(chips_of(board))? {
             Some(Due::Record(record)) => {
