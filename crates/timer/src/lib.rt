@@ -443,12 +443,14 @@ impl Counter {
     }
 
     // The last complete count is transferred, once.
-    fn transfer(mut self) -> Counter
+    fn transfer(self) -> Counter
         ensures { result ≡ transferred self }
     {
-        self.pending = false;
-        self.value = self.count;
-        self
+        Counter {
+            pending: false,
+            value: self.count,
+            ..self
+        }
     }
 
     // One less, and at the end OUT takes a level.
@@ -470,12 +472,14 @@ impl Counter {
     }
 
     // The load of mode 3: the even number below an odd one, and that it was odd.
-    fn load_even(mut self) -> Counter
+    fn load_even(self) -> Counter
         ensures { result ≡ loaded_even self }
     {
-        self.value = self.count - self.count % 2;
-        self.odd = self.count % 2 == 1;
-        self
+        Counter {
+            value: self.count - self.count % 2,
+            odd: self.count % 2 == 1,
+            ..self
+        }
     }
 
     // A pulse in mode 0.
@@ -513,7 +517,7 @@ impl Counter {
 
     // A pulse in mode 2.
     #[tactic(auto, unfolding(crate::specs::Mode2::pulse2))]
-    fn pulse_2(mut self) -> Counter
+    fn pulse_2(self) -> Counter
         ensures { result ≡ pulse2 self }
     {
         if self.pending {
@@ -521,16 +525,20 @@ impl Counter {
             first.trigger = false;
             first
         } else if self.trigger {
-            self.trigger = false;
-            self.value = self.count;
-            self.out = true;
-            self
+            Counter {
+                trigger: false,
+                value: self.count,
+                out: true,
+                ..self
+            }
         } else if !self.gate {
             self
         } else if self.value == 1 {
-            self.value = self.count;
-            self.out = true;
-            self
+            Counter {
+                value: self.count,
+                out: true,
+                ..self
+            }
         } else {
             self.count_down(1, false)
         }
@@ -538,28 +546,33 @@ impl Counter {
 
     // A pulse in mode 3.
     #[tactic(auto, unfolding(crate::specs::Mode3::pulse3))]
-    fn pulse_3(mut self) -> Counter
+    fn pulse_3(self) -> Counter
         ensures { result ≡ pulse3 self }
     {
         if self.pending {
-            let mut loaded = self.load_even();
-            loaded.pending = false;
-            loaded.trigger = false;
-            loaded
+            Counter {
+                pending: false,
+                trigger: false,
+                ..self.load_even()
+            }
         } else if self.trigger {
-            let mut again = self.load_even();
-            again.trigger = false;
-            again.out = true;
-            again
+            Counter {
+                trigger: false,
+                out: true,
+                ..self.load_even()
+            }
         } else if !self.gate {
             self
         } else if self.value == self.half_end() {
-            let mut turned = self.load_even();
-            turned.out = !self.out;
-            turned
+            Counter {
+                out: !self.out,
+                ..self.load_even()
+            }
         } else {
-            self.value = bits::one_less(bits::one_less(self.value));
-            self
+            Counter {
+                value: bits::one_less(bits::one_less(self.value)),
+                ..self
+            }
         }
     }
 
@@ -783,9 +796,8 @@ impl Timer {
     pub fn pulse(self) -> Timer
         ensures { result ≡ pulses_of self }
     {
-        let [a, b, c] = self.counters;
         Timer {
-            counters: [a.pulse(), b.pulse(), c.pulse()],
+            counters: self.counters.map(Counter::pulse),
         }
     }
 
